@@ -1,0 +1,7 @@
+pub mod Answers
+pub mod Parts
+pub mod Numbers
+pub mod Same
+pub mod Runs
+pub mod Decimals
+mod Examples

@@ -1,0 +1,163 @@
+-- The laws of numbers written in digits, each over the base and the width; bytes are the digits of base 256.
+-- Assumes nothing.
+use mathlib.Core.Path.{_≡_, refl, sym, ap, _∙_}
+use mathlib.Core.List.{List, [], _∷_, _++_}
+use Prim.Native.Nat.{ℕ, zero, suc, _+_, _*_, _/_, _%_, _^_, _≤_, _<_}
+use native.Mathlib.Nat.{zero-add, suc-add, add-assoc, add-mul, mul-assoc, mod-eq-of-lt, one-le-pow, div-div-eq-div-mul, mod-one, pow-zero, pow-succ', zero-mul, mul-add-div-right, mul-add-mod-self-right, div-add-mod', add-comm, div-one}
+use native.Mathlib.Omega.{arith}
+use lib.Arith.{digits-lt, digits-div, mod-mul}
+use lib.Dec.{lit<}
+use lib.Pow.{pow-add}
+use lib.ListN.{length, getD, set, take, drop, length-append}
+use lib.Seq.{getD-drop}
+use Rattle.field.specs.Bytes.{part, overlay, value, digits, Digits, be, bytesBe, Bytes}
+use Rattle.field.proofs.Parts.{part-length, part-split, part-one, part-none, part-overlay, overlay-own, overlay-one, overlay-next}
+
+-- ---- any base
+
+pub value-append : (base : ℕ) (xs ys : List ℕ) → value base (xs ++ ys) ≡ value base xs * base ^ length ys + value base ys
+unfolding value
+value-append base [] ys = rw (zero-mul, zero-add)
+value-append base (x ∷ xs) ys =
+    rw (length-append xs ys, pow-add base (length xs) (length ys), value-append base xs ys) (simp (add-mul, mul-assoc, add-assoc))
+
+value-none : (base : ℕ) → value base [] ≡ 0
+unfolding value
+value-none base = refl
+
+pub digits-length : (base n v : ℕ) → length (digits base n v) ≡ n
+unfolding digits
+digits-length base zero v = refl
+digits-length base (suc n) v = ap suc (digits-length base n v)
+
+pub digits-split : (base m n v : ℕ) → digits base (m + n) v ≡ digits base m (v / base ^ n) ++ digits base n v
+unfolding digits
+digits-split base zero n v = rw zero-add
+digits-split base (suc m) n v = rw (suc-add, digits-split base m n v, div-div-eq-div-mul, ← pow-add, add-comm n m)
+
+module _ (base : ℕ) (some : 0 < base) where
+  pub pos : (n : ℕ) → 0 < base ^ n
+  pos n = one-le-pow n base some
+
+  pub value-below : (xs : List ℕ) → Digits base xs → value base xs < base ^ length xs
+  unfolding value
+  value-below [] b = pos 0
+  value-below (x ∷ xs) b = rw pow-succ' (digits-lt (b 0) (value-below xs (λ i. b (suc i))))
+
+  value-digits-mod : (n v : ℕ) → value base (digits base n v) ≡ v % base ^ n
+  unfolding value digits
+  value-digits-mod zero v = rw pow-zero (sym (mod-one v))
+  value-digits-mod (suc n) v =
+      rw (digits-length base n v, value-digits-mod n v, pow-succ') (sym (mod-mul v some (pos n)))
+
+  -- the number of a number's digits is the number
+  pub value-digits : (n v : ℕ) → v < base ^ n → value base (digits base n v) ≡ v
+  value-digits n v h = value-digits-mod n v ∙ mod-eq-of-lt h
+
+  -- only the n low digits count
+  digits-low : (n k v : ℕ) → digits base n (k * base ^ n + v) ≡ digits base n v
+  unfolding digits
+  digits-low zero k v = refl
+  digits-low (suc n) k v =
+      rw (pow-succ', ← mul-assoc, mul-add-div-right (pos n), mul-add-mod-self-right, digits-low n (k * base) v)
+
+  pub digits-mod : (n v : ℕ) → digits base n (v % base ^ n) ≡ digits base n v
+  digits-mod n v = sym (digits-low n (v / base ^ n) (v % base ^ n)) ∙ ap (digits base n) (div-add-mod' v (base ^ n))
+
+  -- the digits of the number of digits are the digits
+  pub digits-value : (xs : List ℕ) → Digits base xs → digits base (length xs) (value base xs) ≡ xs
+  unfolding value digits
+  digits-value [] b = refl
+  digits-value (x ∷ xs) b =
+      rw (
+        digits-div x (value-below xs (λ i. b (suc i))),
+        mod-eq-of-lt (b 0),
+        digits-low (length xs) x (value base xs),
+        digits-value xs (λ i. b (suc i)),
+      )
+
+-- ---- a number read from bytes
+
+-- THE LAW OF READING: a field's number is that of its first m bytes, moved up by n bytes, with that of the n bytes after them
+pub be-split : (xs : List ℕ) (at m n : ℕ) → at + m + n ≤ length xs
+    → be (part xs at (m + n)) ≡ be (part xs at m) * 256 ^ n + be (part xs (at + m) n)
+be-split xs at m n h =
+    ap be (part-split xs at m n) ∙ value-append 256 (part xs at m) (part xs (at + m) n)
+    ∙ ap (λ (k : ℕ). be (part xs at m) * 256 ^ k + be (part xs (at + m) n)) (part-length xs (at + m) n h)
+
+-- as the code reads it, at any two widths
+pub read-joins : (m n : ℕ) (xs : List ℕ) (at : ℕ) {high low : ℕ} → at + (m + n) ≤ length xs → high ≡ be (part xs at m) → low ≡ be (part xs (at + m) n)
+    → high * 256 ^ n + low ≡ be (part xs at (m + n))
+read-joins m n xs at h a b = cc (be-split xs at m n (omega arith))
+
+pub be-one : (xs : List ℕ) (at : ℕ) → at < length xs → be (part xs at 1) ≡ getD xs at 0
+unfolding value
+be-one xs at h = rw (part-one xs at h) (omega arith)
+
+-- the law of reading for any run of widths: `ws` after the first, counted from k
+abbrev pub total : List ℕ → ℕ
+total [] = 0
+total (w ∷ ws) = w + total ws
+
+abbrev pub gather : List ℕ → ℕ → ℕ → List ℕ → ℕ
+gather xs at k [] = 0
+gather xs at k (w ∷ ws) = be (part xs (at + k) w) * 256 ^ total ws + gather xs at (k + w) ws
+
+gathered : (xs : List ℕ) (at k : ℕ) (ws : List ℕ) → at + k + total ws ≤ length xs → be (part xs (at + k) (total ws)) ≡ gather xs at k ws
+gathered xs at k [] h = ap be (part-none xs (at + k)) ∙ value-none 256
+gathered xs at k (w ∷ ws) h =
+    be-split xs (at + k) w (total ws) (omega arith)
+    ∙ ap (λ (x : ℕ). be (part xs (at + k) w) * 256 ^ total ws + x)
+    (ap (λ (i : ℕ). be (part xs i (total ws))) (add-assoc at k w) ∙ gathered xs at (k + w) ws (omega arith))
+
+pub be-gather : (xs : List ℕ) (at w : ℕ) (ws : List ℕ) → at + w + total ws ≤ length xs
+    → be (part xs at (w + total ws)) ≡ be (part xs at w) * 256 ^ total ws + gather xs at w ws
+be-gather xs at w ws h =
+    be-split xs at w (total ws) h ∙ ap (λ (x : ℕ). be (part xs at w) * 256 ^ total ws + x) (gathered xs at w ws h)
+
+-- ---- a number written as bytes
+
+-- THE LAW OF WRITING: m bytes of what is above the n low bytes, and the n low bytes after them, are the m + n bytes
+pub write-split : (xs : List ℕ) (at m n v : ℕ) → at + m + n ≤ length xs
+    → overlay (overlay xs at (bytesBe m (v / 256 ^ n))) (at + m) (bytesBe n (v % 256 ^ n)) ≡ overlay xs at (bytesBe (m + n) v)
+write-split xs at m n v h =
+    rw (digits-mod 256 (lit< tt) n v, digits-split 256 m n v)
+    (rw (digits-length 256 m (v / 256 ^ n)) at
+    (overlay-next xs at (bytesBe m (v / 256 ^ n)) (bytesBe n v)
+    (rw (digits-length 256 m (v / 256 ^ n), digits-length 256 n v) h)))
+
+-- as the code writes it, at any two widths
+pub write-joins : (m n : ℕ) (xs : List ℕ) (at v : ℕ) {ys zs : List ℕ} → at + (m + n) ≤ length xs → ys ≡ overlay xs at (bytesBe m (v / 256 ^ n))
+    → zs ≡ overlay ys (at + m) (bytesBe n (v % 256 ^ n)) → zs ≡ overlay xs at (bytesBe (m + n) v)
+write-joins m n xs at v h a b = cc (write-split xs at m n v (omega arith))
+
+pub write-one : (xs : List ℕ) (at v : ℕ) → at < length xs → v < 256 → set xs at v ≡ overlay xs at (bytesBe 1 v)
+unfolding digits
+write-one xs at v h b = rw (div-one v, mod-eq-of-lt b) (overlay-one xs at v h)
+
+-- ---- written and read
+
+bytes-take : (n : ℕ) (xs : List ℕ) → Bytes xs → Bytes (take n xs)
+bytes-take zero xs b i = lit< tt
+bytes-take (suc n) [] b i = lit< tt
+bytes-take (suc n) (x ∷ xs) b zero = b 0
+bytes-take (suc n) (x ∷ xs) b (suc i) = bytes-take n xs (λ j. b (suc j)) i
+
+pub part-bytes : (xs : List ℕ) (at n : ℕ) → Bytes xs → Bytes (part xs at n)
+unfolding part
+part-bytes xs at n b = bytes-take n (drop at xs) (λ i. rw getD-drop (b (at + i)))
+
+pub part-below : (xs : List ℕ) (at n : ℕ) → Bytes xs → at + n ≤ length xs → be (part xs at n) < 256 ^ n
+part-below xs at n b h = rw (part-length xs at n h) at (value-below 256 (lit< tt) (part xs at n) (part-bytes xs at n b))
+
+-- what was written is read back
+pub written : (xs : List ℕ) (at n v : ℕ) → at + n ≤ length xs → v < 256 ^ n → be (part (overlay xs at (bytesBe n v)) at n) ≡ v
+written xs at n v h b =
+    let e : at + length (bytesBe n v) ≤ length xs = rw (digits-length 256 n v) h in
+    ap be (rw (digits-length 256 n v) at (part-overlay xs at (bytesBe n v) e)) ∙ value-digits 256 (lit< tt) n v b
+
+-- what was read is written back: nothing changes
+pub rewritten : (xs : List ℕ) (at n : ℕ) → Bytes xs → at + n ≤ length xs → overlay xs at (bytesBe n (be (part xs at n))) ≡ xs
+rewritten xs at n b h =
+    ap (overlay xs at) (rw (part-length xs at n h) at (digits-value 256 (lit< tt) (part xs at n) (part-bytes xs at n b)))
+    ∙ overlay-own xs at n h
