@@ -1,5 +1,6 @@
 pub mod Answers
 pub mod Parts
+pub mod Writes
 pub mod Numbers
 pub mod Same
 pub mod Runs

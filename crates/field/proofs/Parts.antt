@@ -1,13 +1,14 @@
 -- The laws of `part` and `overlay`.
 -- Assumes nothing.
 use mathlib.Core.Path.{_≡_, refl, sym, ap, _∙_}
-use mathlib.Core.List.{List, [], _∷_, _++_, append-assoc}
+use mathlib.Core.List.{List, [], _∷_, _++_, append-assoc, append-nil}
 use Prim.Native.Nat.{ℕ, zero, suc, _+_, _-_, _≤_, _<_}
 use native.Mathlib.Nat.{add-zero, zero-add, suc-add, add-assoc, sub-zero}
 use native.Mathlib.Numerals.{add-one}
 use native.Mathlib.Omega.{arith}
 use lib.ListN.{length, take, drop, getD, set, length-append, length-take, length-drop, take-append-drop, replicate, length-replicate, replicate-append-replicate}
-use lib.Seq.{length-take-le, take-take, drop-drop, take-add, drop-cons, getD-take, getD-drop, take-append-le, drop-append-le, take-at, drop-at, drop-append-add, set-split, take-nil, take-length}
+use lib.Seq.{length-take-le, take-take, drop-drop, take-add, drop-cons, getD-take, getD-drop, take-append-le, drop-append-le, take-at, drop-at, drop-append-add, set-split, take-nil, take-length, drop-length}
+use borrow.Rule.Slice.PartMut.{putMid, post-is}
 use Rattle.field.specs.Bytes.{part, overlay}
 
 -- ---- parts
@@ -27,6 +28,9 @@ part-none xs at = refl
 pub part-all : (xs : List ℕ) → part xs 0 (length xs) ≡ xs
 unfolding part
 part-all xs = take-length xs
+
+pub part-whole : (xs : List ℕ) (n : ℕ) → length xs ≡ n → part xs 0 n ≡ xs
+part-whole xs n e = rw (← e) (part-all xs)
 
 pub part-split : (xs : List ℕ) (at m n : ℕ) → part xs at (m + n) ≡ part xs at m ++ part xs (at + m) n
 unfolding part
@@ -170,6 +174,11 @@ unfolding overlay part
 overlay-own xs at n h =
     rw (part-length xs at n h, ← drop-drop n at xs, take-append-drop n (drop at xs)) (take-append-drop at xs)
 
+-- all of it
+pub overlay-whole : (xs ys : List ℕ) → length ys ≡ length xs → overlay xs 0 ys ≡ ys
+unfolding overlay
+overlay-whole xs ys e = rw (zero-add, e, drop-length) (append-nil ys)
+
 -- the same place again: the later counts
 pub overlay-again : (xs : List ℕ) (at : ℕ) (ys zs : List ℕ) → length ys ≡ length zs → at + length ys ≤ length xs
     → overlay (overlay xs at ys) at zs ≡ overlay xs at zs
@@ -233,3 +242,10 @@ pub fill-turn : (xs : List ℕ) (at b i : ℕ) → at + i < length xs
 fill-turn xs at b i h =
     overlay-store xs at (replicate i b) i b (length-replicate i b) h
     ∙ ap (overlay xs at) (replicate-append-replicate i 1 b)
+
+-- a part that was lent comes back as an overlay
+pub part-back : (from to : ℕ) (xs ys : List ℕ) → from ≤ to → to ≤ length xs → length ys ≡ to - from → putMid from (to - from) xs ys ≡ overlay xs from ys
+unfolding overlay
+part-back from to xs ys h k e =
+    let f : to ≡ from + length ys = omega arith in
+    ap (λ (l : List ℕ). take from xs ++ (ys ++ l)) (post-is from to xs h ∙ ap (λ (n : ℕ). drop n xs) f)

@@ -1,0 +1,5 @@
+pub mod Layouts
+pub mod Table
+pub mod Rounds
+pub mod Ways
+pub mod Puts

@@ -1,0 +1,166 @@
+-- The ways through the code: what it finds, test by test, is what the definitions say.
+-- Assumes nothing.
+use mathlib.Core.Path.{_≡_, refl, sym, ap, _∙_}
+use mathlib.Core.Bool.{Bool, true, false, cond, _&&_}
+use mathlib.Core.List.{List, [], _∷_}
+use Prim.Native.Nat.{ℕ, _+_, _≤_, _<_}
+use native.Mathlib.Omega.{arith}
+use borrow.Author.Tests.{eq-eqb, ne-eqb, le-leb, lt-leb}
+use lib.Dec.{eqb}
+use lib.ListN.{length, getD, replicate}
+use Rattle.field.specs.Bytes.{part, overlay}
+use Rattle.field.specs.Limits.{timeInRange}
+use Rattle.field.specs.Text.{isText}
+use Rattle.field.specs.Decimal.{numberBeforeSpaces}
+use Rattle.field.specs.declared.decimal.Number.{Number}
+use Rattle.field.specs.declared.decimal.Number.the-variants as number
+use Rattle.field.proofs.Parts.{part-length, part-whole, overlay-whole}
+use Rattle.message.specs.Layout.{values, keepsAll}
+use Rattle.message.specs.Letters.{Letter, letters, letterIn, letterFor, fieldsOf, noTexts, stampRows, stampOf, instrumentRows, entryRows, instrumentOf, instrumentFields, textsOf, directoryRows, directoryOf, directoryFields, endOfReplayRows, endOfReplayOf}
+use Rattle.message.specs.Message.{Sized, accepted, refused, readFields, readAs, readOf, bytesOf, keeps, outcome, writeOf}
+use Rattle.message.specs.declared.Message.{Message}
+use Rattle.message.specs.declared.Stamp.{Stamp}
+use Rattle.message.specs.declared.Instrument.{Instrument}
+use Rattle.message.specs.declared.Directory.{Directory}
+use Rattle.message.specs.declared.EndOfReplay.{EndOfReplay}
+use Rattle.message.specs.declared.Texts.{Texts}
+use Rattle.message.specs.declared.Refusal.{Refusal}
+use Rattle.message.specs.declared.Refusal.the-variants.{UnknownLetter, WrongLength, BadField}
+use Rattle.message.specs.declared.Answer.the-variants.{Is, Refused}
+use Rattle.message.specs.declared.Reading.{Reading}
+use Rattle.message.specs.declared.Written.the-variants.{Whole, Unwritten}
+use Rattle.message.specs.declared.WriteRefusal.the-variants.{BrokenRecord, ShortOutput}
+use Rattle.message.proofs.Layouts.{rowsIn, values-in-part}
+use Rattle.message.proofs.Table.{Makes, found-makes, taken, takenTexts, other-texts}
+
+-- ---- reading
+
+pub read-empty : (bs : List ℕ) {r : Reading} → length bs ≡ 0 → r ≡ refused UnknownLetter → r ≡ readOf bs
+unfolding readOf
+read-empty [] e p = p
+read-empty (c ∷ bs) e p = absurd (omega arith)
+
+read-some : (bs : List ℕ) → (length bs ≡ 0 → ⊥) → readAs (letterIn letters (getD bs 0 0)) bs ≡ readOf bs
+unfolding readOf
+read-some [] h = absurd (h refl)
+read-some (c ∷ bs) h = refl
+
+-- one letter's three tests
+module _ (l : Letter) (bs : List ℕ) where
+  as-unknown : l .size ≡ 0 → readAs l bs ≡ refused UnknownLetter
+  unfolding readAs
+  as-unknown e = rw (eq-eqb (l .size) 0 e)
+
+  as-long : (l .size ≡ 0 → ⊥) → (length bs ≡ l .size → ⊥) → readAs l bs ≡ refused WrongLength
+  unfolding readAs
+  as-long h e = rw (ne-eqb (l .size) 0 h, ne-eqb (length bs) (l .size) e)
+
+  as-fields : Sized l bs → readAs l bs ≡ readFields l (values (l .rows) bs)
+  unfolding readAs
+  as-fields s = rw (ne-eqb (l .size) 0 (s .isListed), eq-eqb (length bs) (l .size) (s .isLong))
+
+module _ (bs : List ℕ) (size : ℕ) (some : length bs ≡ 0 → ⊥) (is : size ≡ letterIn letters (getD bs 0 0) .size) where
+  pub read-unknown : {r : Reading} → size ≡ 0 → r ≡ refused UnknownLetter → r ≡ readOf bs
+  read-unknown e p = p ∙ sym (as-unknown (letterIn letters (getD bs 0 0)) bs (sym is ∙ e)) ∙ read-some bs some
+
+  pub read-long : {r : Reading} → (size ≡ 0 → ⊥) → (length bs ≡ size → ⊥) → r ≡ refused WrongLength → r ≡ readOf bs
+  read-long h e p = p ∙ sym (as-long (letterIn letters (getD bs 0 0)) bs (λ z. h (is ∙ z)) (λ z. e (z ∙ sym is))) ∙ read-some bs some
+
+  pub is-sized : (size ≡ 0 → ⊥) → length bs ≡ size → Sized (letterIn letters (getD bs 0 0)) bs
+  is-sized h e = record { isListed = λ z. h (is ∙ z); isLong = e ∙ is }
+
+  -- the record that was taken keeps its rules exactly when the fields do
+  module _ (h : size ≡ 0 → ⊥) (e : length bs ≡ size) (m : Message) (t : Texts) (ok : Bool)
+      (pm : m ≡ taken (getD bs 0 0) bs) (pt : t ≡ takenTexts (getD bs 0 0) bs) (po : ok ≡ keeps m t) where
+    fields-keep : keepsAll (letterIn letters (getD bs 0 0) .rows) (values (letterIn letters (getD bs 0 0) .rows) bs) ≡ ok
+    unfolding keeps
+    fields-keep =
+        let w = found-makes (getD bs 0 0) bs (λ z. h (is ∙ z)) in
+        sym (rw (pm, pt, w .own, w .fields) at po)
+
+    by-fields : readFields (letterIn letters (getD bs 0 0)) (values (letterIn letters (getD bs 0 0) .rows) bs) ≡ readOf bs
+    by-fields = sym (as-fields (letterIn letters (getD bs 0 0)) bs (is-sized h e)) ∙ read-some bs some
+
+    pub read-yes : ok ≡ true → accepted m t ≡ readOf bs
+    unfolding readFields
+    read-yes y = rw (pm, pt) (rw (fields-keep, y) at by-fields)
+
+    pub read-no : {r : Reading} → ok ≡ false → r ≡ refused BadField → r ≡ readOf bs
+    unfolding readFields
+    read-no n p = p ∙ rw (fields-keep, n) at by-fields
+
+-- ---- by the kind of a message
+
+pub kept : (m′ : Message) {m : Message} (t : Texts) {r : Bool} → m ≡ m′ → r ≡ keeps m′ t → r ≡ keeps m t
+kept m′ t e p = rw e p
+
+pub put-as : (m′ : Message) {m : Message} (t : Texts) (xs : List ℕ) {zs : List ℕ} → m ≡ m′ → zs ≡ overlay xs 0 (bytesOf m′ t) → zs ≡ overlay xs 0 (bytesOf m t)
+put-as m′ t xs e p = rw e p
+
+pub room-for : (m′ : Message) {m : Message} (n : ℕ) → m ≡ m′ → letterFor m .size ≤ n → letterFor m′ .size ≤ n
+room-for m′ n e h = rw e at h
+
+-- ---- writing
+
+module _ (m : Message) (t : Texts) (out : List ℕ) (ok : Bool) (po : ok ≡ keeps m t) where
+  pub write-broken : ok ≡ false → outcome (Unwritten BrokenRecord) out ≡ writeOf m t out
+  unfolding writeOf
+  write-broken n = rw (← po, n)
+
+  pub write-short : (size : ℕ) → ok ≡ true → size ≡ letterFor m .size → length out < size → outcome (Unwritten ShortOutput) out ≡ writeOf m t out
+  unfolding writeOf
+  write-short size y e l = rw (← po, y, ← e, lt-leb size (length out) l)
+
+  pub write-whole : (size : ℕ) {zs : List ℕ} → ok ≡ true → size ≡ letterFor m .size → size ≤ length out → zs ≡ overlay out 0 (bytesOf m t)
+      → outcome (Whole size) zs ≡ writeOf m t out
+  unfolding writeOf
+  write-whole size y e l p = rw (← po, y, ← e, le-leb size (length out) l, p)
+
+-- ---- what is taken from the bytes
+
+pub number-taken : (bs : List ℕ) (n : ℕ) {x : Number} → x ≡ numberBeforeSpaces (part bs 1 20) → x ≡ number.Is n
+    → _≡_ {A = EndOfReplay} (record { number = n }) (endOfReplayOf (values endOfReplayRows bs))
+unfolding values
+number-taken bs n p q = rw (← p, q)
+
+pub no-number-taken : (bs : List ℕ) {x : Number} → x ≡ numberBeforeSpaces (part bs 1 20) → x ≡ number.Bad
+    → _≡_ {A = EndOfReplay} (record { number = 0 }) (endOfReplayOf (values endOfReplayRows bs))
+unfolding values
+no-number-taken bs p q = rw (← p, q)
+
+-- the 52 bytes of an instrument, in a directory and by themselves
+entry-values : (bs : List ℕ) → values entryRows (part bs 11 52) ≡ values instrumentRows bs
+unfolding rowsIn
+entry-values bs = values-in-part 11 52 instrumentRows bs refl
+
+pub directory-taken : (bs : List ℕ) {s : Stamp} {i : Instrument} → s ≡ stampOf (values stampRows bs) → i ≡ instrumentOf (values entryRows (part bs 11 52))
+    → _≡_ {A = Directory} (record { stamp = s; instrument = i }) (directoryOf (values directoryRows bs))
+unfolding values
+directory-taken bs p q i = record { stamp = p i; instrument = (q ∙ ap instrumentOf (entry-values bs)) i }
+
+pub texts-taken : (c : ℕ) (bs : List ℕ) {t : Texts} → c ≡ 109 → t ≡ textsOf (values entryRows (part bs 11 52)) → t ≡ takenTexts c bs
+unfolding values letters letterIn
+texts-taken c bs e p = let q : values entryRows (part bs 11 52) ≡ values instrumentRows bs = entry-values bs in rw e (p ∙ ap textsOf q)
+
+pub texts-absent : (c : ℕ) (bs : List ℕ) {t : Texts} → (c ≡ 109 → ⊥) → t ≡ noTexts → t ≡ takenTexts c bs
+texts-absent c bs n p = p ∙ sym (other-texts c (values (letterIn letters c .rows) bs) n)
+
+pub texts-copied : (bs : List ℕ) {a b c : List ℕ} → 52 ≤ length bs → a ≡ overlay (replicate 8 0) 0 (part bs 4 8) → b ≡ overlay (replicate 13 0) 0 (part bs 20 13)
+    → c ≡ overlay (replicate 16 0) 0 (part bs 36 16) → _≡_ {A = Texts} (record { symbol = a; underlying = b; reserved = c }) (textsOf (values entryRows bs))
+unfolding values
+texts-copied bs h p q r i =
+    record {
+      symbol = (p ∙ overlay-whole (replicate 8 0) (part bs 4 8) (part-length bs 4 8 (omega arith))) i;
+      underlying = (q ∙ overlay-whole (replicate 13 0) (part bs 20 13) (part-length bs 20 13 (omega arith))) i;
+      reserved = (r ∙ overlay-whole (replicate 16 0) (part bs 36 16) (part-length bs 36 16 (omega arith))) i;
+    }
+
+-- ---- the field rules
+
+pub text-whole : (xs : List ℕ) (n : ℕ) {r : Bool} → length xs ≡ n → r ≡ isText (part xs 0 n) → r ≡ isText xs
+text-whole xs n e p = p ∙ ap isText (part-whole xs n e)
+
+pub directory-keeps : (m : Directory) (t : Texts) {a b : Bool} → a ≡ timeInRange (m .stamp .time) → b ≡ keepsAll instrumentRows (instrumentFields (m .instrument) t)
+    → a && b ≡ keepsAll directoryRows (directoryFields m t)
+unfolding keepsAll
+directory-keeps m t p q = rw (p, q)

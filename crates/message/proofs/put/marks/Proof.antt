@@ -1,0 +1,13 @@
+-- `message::put::marks` meets its contract.
+-- Assumes nothing.
+use borrow.Author.Needs.{needs}
+use Rattle.message.proofs.Puts.{marks-put}
+use Rattle.message.proofs.put.marks.Statement.{statement}
+use Rattle.message.proofs.put.marks.Tie as tie
+
+returns : tie.Need-returns
+returns c = search (marks-put 33, needs)
+
+pub marks-spec : {M : Type 1} → statement M
+marks-spec =
+    tie.close (tie.spec (λ c κs. search needs) (λ c κs. search needs) (λ c κs. search needs) (λ c. search needs) returns)

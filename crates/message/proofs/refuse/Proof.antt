@@ -1,0 +1,11 @@
+-- `message::refuse` meets its contract.
+-- Assumes nothing.
+use borrow.Author.Needs.{needs}
+use Rattle.message.proofs.refuse.Statement.{statement}
+use Rattle.message.proofs.refuse.Tie as tie
+
+returns : tie.Need-returns
+returns c = cc
+
+pub refuse-spec : {M : Type 1} → statement M
+refuse-spec = tie.close (tie.spec (λ c κs. search needs) returns)

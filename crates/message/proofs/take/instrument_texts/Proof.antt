@@ -1,0 +1,19 @@
+-- `message::take::instrument_texts` meets its contract.
+-- Assumes nothing.
+use borrow.Author.Needs.{needs}
+use Rattle.message.proofs.Ways.{texts-copied}
+use Rattle.message.proofs.take.instrument_texts.Statement.{statement}
+use Rattle.message.proofs.take.instrument_texts.Tie as tie
+
+returns : tie.Need-returns
+returns c =
+    let s3 = c .before in
+    let s2 = s3 .before .before .before in
+    let s1 = s2 .before .before .before in
+    let s0 = s1 .before .before .before in
+    texts-copied (s0 .args .entry .now) (s0 .pre) (s1 .copy .ensures) (s2 .copy2 .ensures) (s3 .copy3 .ensures)
+
+pub instrument-texts-spec : {M : Type 1} → statement M
+instrument-texts-spec =
+    tie.close
+    (tie.spec (λ c. search needs) (λ c κs. search needs) (λ c. search needs) (λ c κs. search needs) (λ c. search needs) (λ c κs. search needs) returns)

@@ -1,0 +1,217 @@
+// Records taken from bytes of their letter's length.
+use crate::Directory;
+use crate::EndOfReplay;
+use crate::Instrument;
+use crate::LongNumbers;
+use crate::LongQuote;
+use crate::LongSide;
+use crate::Message;
+use crate::ShortNumbers;
+use crate::ShortQuote;
+use crate::ShortSide;
+use crate::Side;
+use crate::Stamp;
+use crate::SystemEvent;
+use crate::Texts;
+use crate::TradingAction;
+use field::decimal;
+ghost use mathlib.Core.Path.{_≡_};
+ghost use Prim.Native.Nat.{_+_, _≤_};
+ghost use lib.ListN.{length};
+ghost use Rattle.message.specs.Layout.{values};
+ghost use Rattle.message.specs.Letters.{letters, letterIn, stampRows, stampOf, systemEventRows, systemEventOf, entryRows, instrumentOf, textsOf, directoryRows, directoryOf, tradingActionRows, tradingActionOf, shortNumbersRows, shortNumbersOf, longNumbersRows, longNumbersOf, shortQuoteRows, shortQuoteOf, longQuoteRows, longQuoteOf, shortSideRows, shortSideOf, longSideRows, longSideOf, endOfReplayRows, endOfReplayOf};
+ghost use Rattle.message.specs.Message.{Sized};
+
+fn stamp(bytes: &[u8]) -> Stamp
+    requires { ⌜ 11 ≤ length (now bytes) ⌝ }
+    ensures { λ r. ⌜ r ≡ stampOf (values stampRows (now (bytes .entry))) ⌝ }
+{
+    Stamp {
+        tracking: field::read2(bytes, 1),
+        time: field::read8(bytes, 3),
+    }
+}
+
+fn short_numbers(bytes: &[u8], at: usize) -> ShortNumbers
+    requires { ⌜ at + 10 ≤ length (now bytes) ⌝ }
+    ensures { λ r. ⌜ r ≡ shortNumbersOf (values (shortNumbersRows at) (now (bytes .entry))) ⌝ }
+{
+    ShortNumbers {
+        market: field::read2(bytes, at),
+        price: field::read2(bytes, at + 2),
+        size: field::read2(bytes, at + 4),
+        customer: field::read2(bytes, at + 6),
+        professional: field::read2(bytes, at + 8),
+    }
+}
+
+fn long_numbers(bytes: &[u8], at: usize) -> LongNumbers
+    requires { ⌜ at + 20 ≤ length (now bytes) ⌝ }
+    ensures { λ r. ⌜ r ≡ longNumbersOf (values (longNumbersRows at) (now (bytes .entry))) ⌝ }
+{
+    LongNumbers {
+        market: field::read4(bytes, at),
+        price: field::read4(bytes, at + 4),
+        size: field::read4(bytes, at + 8),
+        customer: field::read4(bytes, at + 12),
+        professional: field::read4(bytes, at + 16),
+    }
+}
+
+// The fields of the 52 bytes that a directory and a table's row share.
+pub fn instrument(entry: &[u8]) -> Instrument
+    requires { ⌜ 52 ≤ length (now entry) ⌝ }
+    ensures { λ r. ⌜ r ≡ instrumentOf (values entryRows (now (entry .entry))) ⌝ }
+{
+    Instrument {
+        id: field::read4(entry, 0),
+        year: field::read1(entry, 12),
+        month: field::read1(entry, 13),
+        day: field::read1(entry, 14),
+        strike: field::read4(entry, 15),
+        kind: field::read1(entry, 19),
+        closing: field::read1(entry, 33),
+        tradable: field::read1(entry, 34),
+        variation: field::read1(entry, 35),
+    }
+}
+
+pub fn instrument_texts(entry: &[u8]) -> Texts
+    requires { ⌜ 52 ≤ length (now entry) ⌝ }
+    ensures { λ r. ⌜ r ≡ textsOf (values entryRows (now (entry .entry))) ⌝ }
+{
+    let mut symbol = [0; 8];
+    field::copy(entry, 4, 8, &mut symbol, 0);
+    let mut underlying = [0; 13];
+    field::copy(entry, 20, 13, &mut underlying, 0);
+    let mut reserved = [0; 16];
+    field::copy(entry, 36, 16, &mut reserved, 0);
+    Texts {
+        symbol,
+        underlying,
+        reserved,
+    }
+}
+
+fn system_event(bytes: &[u8]) -> SystemEvent
+    requires { ⌜ 12 ≤ length (now bytes) ⌝ }
+    ensures { λ r. ⌜ r ≡ systemEventOf (values systemEventRows (now (bytes .entry))) ⌝ }
+{
+    SystemEvent {
+        stamp: stamp(bytes),
+        code: field::read1(bytes, 11),
+    }
+}
+
+fn directory(bytes: &[u8]) -> Directory
+    requires { ⌜ 63 ≤ length (now bytes) ⌝ }
+    ensures { λ r. ⌜ r ≡ directoryOf (values directoryRows (now (bytes .entry))) ⌝ }
+{
+    Directory {
+        stamp: stamp(bytes),
+        instrument: instrument(&bytes[11..63]),
+    }
+}
+
+fn trading_action(bytes: &[u8]) -> TradingAction
+    requires { ⌜ 16 ≤ length (now bytes) ⌝ }
+    ensures { λ r. ⌜ r ≡ tradingActionOf (values tradingActionRows (now (bytes .entry))) ⌝ }
+{
+    TradingAction {
+        stamp: stamp(bytes),
+        id: field::read4(bytes, 11),
+        state: field::read1(bytes, 15),
+    }
+}
+
+fn short_quote(bytes: &[u8]) -> ShortQuote
+    requires { ⌜ 36 ≤ length (now bytes) ⌝ }
+    ensures { λ r. ⌜ r ≡ shortQuoteOf (values shortQuoteRows (now (bytes .entry))) ⌝ }
+{
+    ShortQuote {
+        stamp: stamp(bytes),
+        id: field::read4(bytes, 11),
+        condition: field::read1(bytes, 15),
+        bid: short_numbers(bytes, 16),
+        ask: short_numbers(bytes, 26),
+    }
+}
+
+fn long_quote(bytes: &[u8]) -> LongQuote
+    requires { ⌜ 56 ≤ length (now bytes) ⌝ }
+    ensures { λ r. ⌜ r ≡ longQuoteOf (values longQuoteRows (now (bytes .entry))) ⌝ }
+{
+    LongQuote {
+        stamp: stamp(bytes),
+        id: field::read4(bytes, 11),
+        condition: field::read1(bytes, 15),
+        bid: long_numbers(bytes, 16),
+        ask: long_numbers(bytes, 36),
+    }
+}
+
+fn short_side(bytes: &[u8], side: Side) -> ShortSide
+    requires { ⌜ 26 ≤ length (now bytes) ⌝ }
+    ensures { λ r. ⌜ r ≡ shortSideOf side (values shortSideRows (now (bytes .entry))) ⌝ }
+{
+    ShortSide {
+        stamp: stamp(bytes),
+        id: field::read4(bytes, 11),
+        condition: field::read1(bytes, 15),
+        side,
+        numbers: short_numbers(bytes, 16),
+    }
+}
+
+fn long_side(bytes: &[u8], side: Side) -> LongSide
+    requires { ⌜ 36 ≤ length (now bytes) ⌝ }
+    ensures { λ r. ⌜ r ≡ longSideOf side (values longSideRows (now (bytes .entry))) ⌝ }
+{
+    LongSide {
+        stamp: stamp(bytes),
+        id: field::read4(bytes, 11),
+        condition: field::read1(bytes, 15),
+        side,
+        numbers: long_numbers(bytes, 16),
+    }
+}
+
+// Characters that write no number give 0, which breaks the record's rule.
+fn end_of_replay(bytes: &[u8]) -> EndOfReplay
+    requires { ⌜ 21 ≤ length (now bytes) ⌝ }
+    ensures { λ r. ⌜ r ≡ endOfReplayOf (values endOfReplayRows (now (bytes .entry))) ⌝ }
+{
+    match decimal::number_before_spaces(bytes, 1, 20) {
+        decimal::Number::Is(number) => EndOfReplay { number },
+        decimal::Number::Bad => EndOfReplay { number: 0 },
+    }
+}
+
+pub fn message(letter: u8, bytes: &[u8]) -> Message
+    requires { ⌜ Sized (letterIn letters letter) (now bytes) ⌝ }
+    ensures { λ r. ⌜ r ≡ letterIn letters letter .makes (values (letterIn letters letter .rows) (now (bytes .entry))) ⌝ }
+{
+    match letter {
+        b'S' => Message::SystemEvent(system_event(bytes)),
+        b'm' => Message::Directory(directory(bytes)),
+        b'H' => Message::TradingAction(trading_action(bytes)),
+        b'q' => Message::ShortQuote(short_quote(bytes)),
+        b'Q' => Message::LongQuote(long_quote(bytes)),
+        b'b' => Message::ShortSide(short_side(bytes, Side::Bid)),
+        b'a' => Message::ShortSide(short_side(bytes, Side::Ask)),
+        b'B' => Message::LongSide(long_side(bytes, Side::Bid)),
+        b'A' => Message::LongSide(long_side(bytes, Side::Ask)),
+        _ => Message::EndOfReplay(end_of_replay(bytes)),
+    }
+}
+
+pub fn texts(letter: u8, bytes: &[u8]) -> Texts
+    requires { ⌜ Sized (letterIn letters letter) (now bytes) ⌝ }
+    ensures { λ r. ⌜ r ≡ letterIn letters letter .texts (values (letterIn letters letter .rows) (now (bytes .entry))) ⌝ }
+{
+    if letter == b'm' {
+        instrument_texts(&bytes[11..63])
+    } else {
+        crate::no_texts()
+    }
+}
