@@ -1,5 +1,6 @@
 pub mod Layouts
 pub mod Table
 pub mod Rounds
+pub mod Verdicts
 pub mod Ways
 pub mod Puts

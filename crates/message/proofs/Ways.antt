@@ -17,7 +17,7 @@ use Rattle.field.specs.declared.decimal.Number.the-variants as number
 use Rattle.field.proofs.Parts.{part-length, part-whole, overlay-whole}
 use Rattle.message.specs.Layout.{values, keepsAll}
 use Rattle.message.specs.Letters.{Letter, letters, letterIn, letterFor, fieldsOf, noTexts, stampRows, stampOf, instrumentRows, entryRows, instrumentOf, instrumentFields, textsOf, directoryRows, directoryOf, directoryFields, endOfReplayRows, endOfReplayOf}
-use Rattle.message.specs.Message.{Sized, accepted, refused, readFields, readAs, readOf, bytesOf, keeps, outcome, writeOf}
+use Rattle.message.specs.Message.{Sized, accepted, refused, readFields, readAs, readOf, judgedOf, bytesOf, keeps, outcome, writeOf}
 use Rattle.message.specs.declared.Message.{Message}
 use Rattle.message.specs.declared.Stamp.{Stamp}
 use Rattle.message.specs.declared.Instrument.{Instrument}
@@ -59,6 +59,21 @@ module _ (l : Letter) (bs : List ℕ) where
   unfolding readAs
   as-fields s = rw (ne-eqb (l .size) 0 (s .isListed), eq-eqb (length bs) (l .size) (s .isLong))
 
+-- the record that a letter makes keeps its rules exactly when the fields do
+fields-judged : (c : ℕ) (bs : List ℕ) → (letterIn letters c .size ≡ 0 → ⊥)
+    → judgedOf (taken c bs) (takenTexts c bs) ≡ readFields (letterIn letters c) (values (letterIn letters c .rows) bs)
+unfolding judgedOf readFields keeps
+fields-judged c bs h = let w = found-makes c bs h in rw (w .own, w .fields)
+
+module _ (m : Message) (t : Texts) {ok : Bool} (p : ok ≡ keeps m t) where
+  pub judged-yes : ok ≡ true → accepted m t ≡ judgedOf m t
+  unfolding judgedOf
+  judged-yes y = rw (← p, y)
+
+  pub judged-no : {r : Reading} → ok ≡ false → r ≡ refused BadField → r ≡ judgedOf m t
+  unfolding judgedOf
+  judged-no n q = rw (← p, n) q
+
 module _ (bs : List ℕ) (size : ℕ) (some : length bs ≡ 0 → ⊥) (is : size ≡ letterIn letters (getD bs 0 0) .size) where
   pub read-unknown : {r : Reading} → size ≡ 0 → r ≡ refused UnknownLetter → r ≡ readOf bs
   read-unknown e p = p ∙ sym (as-unknown (letterIn letters (getD bs 0 0)) bs (sym is ∙ e)) ∙ read-some bs some
@@ -69,25 +84,11 @@ module _ (bs : List ℕ) (size : ℕ) (some : length bs ≡ 0 → ⊥) (is : siz
   pub is-sized : (size ≡ 0 → ⊥) → length bs ≡ size → Sized (letterIn letters (getD bs 0 0)) bs
   is-sized h e = record { isListed = λ z. h (is ∙ z); isLong = e ∙ is }
 
-  -- the record that was taken keeps its rules exactly when the fields do
-  module _ (h : size ≡ 0 → ⊥) (e : length bs ≡ size) (m : Message) (t : Texts) (ok : Bool)
-      (pm : m ≡ taken (getD bs 0 0) bs) (pt : t ≡ takenTexts (getD bs 0 0) bs) (po : ok ≡ keeps m t) where
-    fields-keep : keepsAll (letterIn letters (getD bs 0 0) .rows) (values (letterIn letters (getD bs 0 0) .rows) bs) ≡ ok
-    unfolding keeps
-    fields-keep =
-        let w = found-makes (getD bs 0 0) bs (λ z. h (is ∙ z)) in
-        sym (rw (pm, pt, w .own, w .fields) at po)
-
-    by-fields : readFields (letterIn letters (getD bs 0 0)) (values (letterIn letters (getD bs 0 0) .rows) bs) ≡ readOf bs
-    by-fields = sym (as-fields (letterIn letters (getD bs 0 0)) bs (is-sized h e)) ∙ read-some bs some
-
-    pub read-yes : ok ≡ true → accepted m t ≡ readOf bs
-    unfolding readFields
-    read-yes y = rw (pm, pt) (rw (fields-keep, y) at by-fields)
-
-    pub read-no : {r : Reading} → ok ≡ false → r ≡ refused BadField → r ≡ readOf bs
-    unfolding readFields
-    read-no n p = p ∙ rw (fields-keep, n) at by-fields
+  pub read-judged : (m : Message) (t : Texts) {r : Reading} → (size ≡ 0 → ⊥) → length bs ≡ size → m ≡ taken (getD bs 0 0) bs
+      → t ≡ takenTexts (getD bs 0 0) bs → r ≡ judgedOf m t → r ≡ readOf bs
+  read-judged m t h e pm pt p =
+      p ∙ rw (pm, pt) (fields-judged (getD bs 0 0) bs (λ z. h (is ∙ z)))
+      ∙ sym (as-fields (letterIn letters (getD bs 0 0)) bs (is-sized h e)) ∙ read-some bs some
 
 -- ---- by the kind of a message
 

@@ -1,7 +1,7 @@
 // The messages of the feed: ten letters, read from their bytes and written to them.
 ghost use mathlib.Core.Path.{_≡_};
 ghost use Rattle.message.specs.Letters.{noTexts};
-ghost use Rattle.message.specs.Message.{refusalNumber, writeRefusalNumber, refused, readOf, outcome, writeOf};
+ghost use Rattle.message.specs.Message.{refusalNumber, writeRefusalNumber, refused, judgedOf, readOf, outcome, writeOf};
 
 pub mod lengths;
 pub mod put;
@@ -185,6 +185,19 @@ fn refuse(r: Refusal) -> Reading
     }
 }
 
+// A record with its texts, or the refusal of a field outside its list or range.
+fn judged(message: Message, texts: Texts) -> Reading
+    ensures { λ r. ⌜ r ≡ judgedOf message texts ⌝ }
+{
+    if rules::keep(message, texts) {
+        return Reading {
+            answer: Answer::Is(message),
+            texts,
+        };
+    }
+    refuse(Refusal::BadField)
+}
+
 pub fn read(bytes: &[u8]) -> Reading
     ensures { λ r. ⌜ r ≡ readOf (now (bytes .entry)) ⌝ }
 {
@@ -199,16 +212,7 @@ pub fn read(bytes: &[u8]) -> Reading
     if bytes.len() != size {
         return refuse(Refusal::WrongLength);
     }
-    let message = take::message(letter, bytes);
-    let texts = take::texts(letter, bytes);
-    if rules::keep(message, texts) {
-        Reading {
-            answer: Answer::Is(message),
-            texts,
-        }
-    } else {
-        refuse(Refusal::BadField)
-    }
+    judged(take::message(letter, bytes), take::texts(letter, bytes))
 }
 
 pub fn write(message: Message, texts: Texts, out: &mut [u8]) -> Written

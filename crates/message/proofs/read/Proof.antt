@@ -1,7 +1,7 @@
 -- `message::read` meets its contract.
 -- Assumes nothing.
 use borrow.Author.Needs.{needs}
-use Rattle.message.proofs.Ways.{read-empty, read-unknown, read-long, read-yes, read-no}
+use Rattle.message.proofs.Ways.{read-empty, read-unknown, read-long, read-judged}
 use Rattle.message.proofs.read.Statement.{statement}
 use Rattle.message.proofs.read.Tie as tie
 
@@ -15,12 +15,9 @@ returns-3 : tie.Need-returns-3
 returns-3 c = search (read-long, needs)
 
 returns-4 : tie.Need-returns-4
-returns-4 c = search (read-yes, needs)
-
-returns-5 : tie.Need-returns-5
-returns-5 c = search (read-no, needs)
+returns-4 c = search (read-judged, needs)
 
 pub read-spec : {M : Type 1} → statement M
 read-spec =
     tie.close
-    (tie.spec (λ c κs. search needs) returns (λ c. search needs) (λ c κs. search needs) (λ c κs. search needs) returns-2 (λ c κs. search needs) returns-3 (λ c κs. search needs) (λ c κs. search needs) (λ c κs. search needs) (λ c κs. search needs) returns-4 returns-5)
+    (tie.spec (λ c κs. search needs) returns (λ c. search needs) (λ c κs. search needs) (λ c κs. search needs) returns-2 (λ c κs. search needs) returns-3 (λ c κs. search needs) (λ c κs. search needs) (λ c κs. search needs) returns-4)
