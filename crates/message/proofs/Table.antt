@@ -13,12 +13,13 @@ use lib.Seq.{drop-cons}
 use Rattle.field.proofs.Runs.{both-left, both-right}
 use Rattle.message.specs.Layout.{Value, values, tiled}
 use Rattle.message.specs.Letters.{Letter, letters, letterIn, letterFor, unlisted, lengthTable, lengthIn, listed, noTexts, fieldsOf, shortSideCode, shortSideLetter, longSideCode, longSideLetter}
-use Rattle.message.specs.Message.{Sized, textsWith}
+use Rattle.message.specs.Message.{Sized, readFields, textsWith}
 use Rattle.message.specs.declared.Message.{Message}
 use Rattle.message.specs.declared.Message.the-variants as message
 use Rattle.message.specs.declared.Side.{Side}
 use Rattle.message.specs.declared.Side.the-variants.{Bid, Ask}
 use Rattle.message.specs.declared.Texts.{Texts}
+use Rattle.message.specs.declared.Reading.{Reading}
 
 infixr 5 _also_
 abbrev _also_ : {A B : Type 0} → A → B → A × B
@@ -91,14 +92,9 @@ module _ (xs : List ℕ) (c i : ℕ) where
 
 -- ---- what the code takes, letter by letter
 
-abbrev pub taken : ℕ → List ℕ → Message
-taken c bs = letterIn letters c .makes (values (letterIn letters c .rows) bs)
-
-abbrev pub takenTexts : ℕ → List ℕ → Texts
-takenTexts c bs = letterIn letters c .texts (values (letterIn letters c .rows) bs)
-
 -- in the arm of code k the letter is k
-pub arm : (k : ℕ) (c : ℕ) (bs : List ℕ) {m : Message} → c ≡ k → m ≡ taken k bs → m ≡ taken c bs
+pub arm : (k : ℕ) (c : ℕ) (bs : List ℕ) {r : Reading} → c ≡ k → r ≡ readFields (letterIn letters k) (values (letterIn letters k .rows) bs)
+    → r ≡ readFields (letterIn letters c) (values (letterIn letters c .rows) bs)
 arm k c bs e p = rw e p
 
 pub room : (k : ℕ) (c : ℕ) (bs : List ℕ) → c ≡ k → Sized (letterIn letters c) bs → letterIn letters k .size ≤ length bs
@@ -121,12 +117,6 @@ last-arm c n1 n2 n3 n4 n5 n6 n7 n8 n9 =
     also (λ e h. absurd (n9 (sym e)))
     also (λ e h. sym e)
     also tt)
-
--- only a directory has texts
-pub other-texts : (c : ℕ) (vs : List Value) → (c ≡ 109 → ⊥) → letterIn letters c .texts vs ≡ noTexts
-unfolding letters
-other-texts c vs n =
-    found (λ (l : Letter). l .texts vs ≡ noTexts) c letters refl ((λ e. refl) also (λ e. absurd (n (sym e))) also search (refl, tt) depth 40)
 
 -- ---- records and fields, both ways
 

@@ -15,10 +15,11 @@ use Rattle.field.specs.Decimal.{numberBeforeSpaces}
 use Rattle.field.specs.declared.decimal.Number.{Number}
 use Rattle.field.specs.declared.decimal.Number.the-variants as number
 use Rattle.field.proofs.Parts.{part-length, part-whole, overlay-whole}
-use Rattle.message.specs.Layout.{values, keepsAll}
-use Rattle.message.specs.Letters.{Letter, letters, letterIn, letterFor, fieldsOf, noTexts, stampRows, stampOf, instrumentRows, entryRows, instrumentOf, instrumentFields, textsOf, directoryRows, directoryOf, directoryFields, endOfReplayRows, endOfReplayOf}
-use Rattle.message.specs.Message.{Sized, accepted, refused, readFields, readAs, readOf, judgedOf, bytesOf, keeps, outcome, writeOf}
+use Rattle.message.specs.Layout.{Value, values, keepsAll}
+use Rattle.message.specs.Letters.{Letter, letters, letterIn, letterFor, fieldsOf, noTexts, stampRows, stampOf, instrumentRows, entryRows, instrumentOf, instrumentFields, textsOf, directoryRows, directoryOf, directoryFields, directoryLetter, endOfReplayRows, endOfReplayOf}
+use Rattle.message.specs.Message.{Sized, accepted, refused, readFields, readAs, readOf, bytesOf, keeps, outcome, writeOf}
 use Rattle.message.specs.declared.Message.{Message}
+use Rattle.message.specs.declared.Message.the-variants as message
 use Rattle.message.specs.declared.Stamp.{Stamp}
 use Rattle.message.specs.declared.Instrument.{Instrument}
 use Rattle.message.specs.declared.Directory.{Directory}
@@ -31,7 +32,6 @@ use Rattle.message.specs.declared.Reading.{Reading}
 use Rattle.message.specs.declared.Written.the-variants.{Whole, Unwritten}
 use Rattle.message.specs.declared.WriteRefusal.the-variants.{BrokenRecord, ShortOutput}
 use Rattle.message.proofs.Layouts.{rowsIn, values-in-part}
-use Rattle.message.proofs.Table.{Makes, found-makes, taken, takenTexts, other-texts}
 
 -- ---- reading
 
@@ -59,20 +59,20 @@ module _ (l : Letter) (bs : List ℕ) where
   unfolding readAs
   as-fields s = rw (ne-eqb (l .size) 0 (s .isListed), eq-eqb (length bs) (l .size) (s .isLong))
 
--- the record that a letter makes keeps its rules exactly when the fields do
-fields-judged : (c : ℕ) (bs : List ℕ) → (letterIn letters c .size ≡ 0 → ⊥)
-    → judgedOf (taken c bs) (takenTexts c bs) ≡ readFields (letterIn letters c) (values (letterIn letters c .rows) bs)
-unfolding judgedOf readFields keeps
-fields-judged c bs h = let w = found-makes c bs h in rw (w .own, w .fields)
+-- a record with no texts, of any kind: it makes the message `says`, from the fields that are its own
+module _ {A : Type 0} (l : Letter) (vs : List Value) (says : A → Message) (fields : A → List Value) (a : A)
+    (made : l .makes vs ≡ says a) (bare : l .texts vs ≡ noTexts) (own : fields a ≡ vs) where
+  module _ {m : A} {ok : Bool} (is : m ≡ a) (p : ok ≡ keepsAll (l .rows) (fields m)) where
+    kept-fields : ok ≡ keepsAll (l .rows) vs
+    kept-fields = p ∙ ap (λ (x : A). keepsAll (l .rows) (fields x)) is ∙ ap (keepsAll (l .rows)) own
 
-module _ (m : Message) (t : Texts) {ok : Bool} (p : ok ≡ keeps m t) where
-  pub judged-yes : ok ≡ true → accepted m t ≡ judgedOf m t
-  unfolding judgedOf
-  judged-yes y = rw (← p, y)
+    pub judged-yes : {t : Texts} → ok ≡ true → t ≡ noTexts → accepted (says m) t ≡ readFields l vs
+    unfolding readFields
+    judged-yes y q = rw (← kept-fields, y, made, bare, is, q)
 
-  pub judged-no : {r : Reading} → ok ≡ false → r ≡ refused BadField → r ≡ judgedOf m t
-  unfolding judgedOf
-  judged-no n q = rw (← p, n) q
+    pub judged-no : {r : Reading} → ok ≡ false → r ≡ refused BadField → r ≡ readFields l vs
+    unfolding readFields
+    judged-no n q = rw (← kept-fields, n) q
 
 module _ (bs : List ℕ) (size : ℕ) (some : length bs ≡ 0 → ⊥) (is : size ≡ letterIn letters (getD bs 0 0) .size) where
   pub read-unknown : {r : Reading} → size ≡ 0 → r ≡ refused UnknownLetter → r ≡ readOf bs
@@ -84,11 +84,9 @@ module _ (bs : List ℕ) (size : ℕ) (some : length bs ≡ 0 → ⊥) (is : siz
   pub is-sized : (size ≡ 0 → ⊥) → length bs ≡ size → Sized (letterIn letters (getD bs 0 0)) bs
   is-sized h e = record { isListed = λ z. h (is ∙ z); isLong = e ∙ is }
 
-  pub read-judged : (m : Message) (t : Texts) {r : Reading} → (size ≡ 0 → ⊥) → length bs ≡ size → m ≡ taken (getD bs 0 0) bs
-      → t ≡ takenTexts (getD bs 0 0) bs → r ≡ judgedOf m t → r ≡ readOf bs
-  read-judged m t h e pm pt p =
-      p ∙ rw (pm, pt) (fields-judged (getD bs 0 0) bs (λ z. h (is ∙ z)))
-      ∙ sym (as-fields (letterIn letters (getD bs 0 0)) bs (is-sized h e)) ∙ read-some bs some
+  pub read-judged : {r : Reading} → (size ≡ 0 → ⊥) → length bs ≡ size
+      → r ≡ readFields (letterIn letters (getD bs 0 0)) (values (letterIn letters (getD bs 0 0) .rows) bs) → r ≡ readOf bs
+  read-judged h e p = p ∙ sym (as-fields (letterIn letters (getD bs 0 0)) bs (is-sized h e)) ∙ read-some bs some
 
 -- ---- by the kind of a message
 
@@ -139,12 +137,23 @@ pub directory-taken : (bs : List ℕ) {s : Stamp} {i : Instrument} → s ≡ sta
 unfolding values
 directory-taken bs p q i = record { stamp = p i; instrument = (q ∙ ap instrumentOf (entry-values bs)) i }
 
-pub texts-taken : (c : ℕ) (bs : List ℕ) {t : Texts} → c ≡ 109 → t ≡ textsOf (values entryRows (part bs 11 52)) → t ≡ takenTexts c bs
-unfolding values letters letterIn
-texts-taken c bs e p = let q : values entryRows (part bs 11 52) ≡ values instrumentRows bs = entry-values bs in rw e (p ∙ ap textsOf q)
+-- a directory, with its texts
+module _ (bs : List ℕ) {m : Directory} {t : Texts} {ok : Bool} (is : m ≡ directoryOf (values directoryRows bs)) (texts : t ≡ textsOf (values entryRows (part bs 11 52)))
+    (p : ok ≡ keepsAll directoryRows (directoryFields m t)) where
+  own-texts : t ≡ textsOf (values instrumentRows bs)
+  own-texts = texts ∙ ap textsOf (entry-values bs)
 
-pub texts-absent : (c : ℕ) (bs : List ℕ) {t : Texts} → (c ≡ 109 → ⊥) → t ≡ noTexts → t ≡ takenTexts c bs
-texts-absent c bs n p = p ∙ sym (other-texts c (values (letterIn letters c .rows) bs) n)
+  kept-directory : ok ≡ keepsAll directoryRows (values directoryRows bs)
+  unfolding values
+  kept-directory = p ∙ rw (is, own-texts)
+
+  pub directory-yes : ok ≡ true → accepted (message.Directory m) t ≡ readFields directoryLetter (values directoryRows bs)
+  unfolding readFields values
+  directory-yes y = rw (← kept-directory, y, is, own-texts)
+
+  pub directory-no : {r : Reading} → ok ≡ false → r ≡ refused BadField → r ≡ readFields directoryLetter (values directoryRows bs)
+  unfolding readFields
+  directory-no n q = rw (← kept-directory, n) q
 
 pub texts-copied : (bs : List ℕ) {a b c : List ℕ} → 52 ≤ length bs → a ≡ overlay (replicate 8 0) 0 (part bs 4 8) → b ≡ overlay (replicate 13 0) 0 (part bs 20 13)
     → c ≡ overlay (replicate 16 0) 0 (part bs 36 16) → _≡_ {A = Texts} (record { symbol = a; underlying = b; reserved = c }) (textsOf (values entryRows bs))

@@ -80,10 +80,6 @@ writeOf m t out =
     (outcome (Unwritten ShortOutput) out))
     (outcome (Unwritten BrokenRecord) out)
 
--- a record and its texts are accepted if it keeps its rules
-unfoldable pub judgedOf : Message → Texts → Reading
-judgedOf m t = cond (keeps m t) (accepted m t) (refused BadField)
-
 -- ---- what the theorems speak of
 
 -- bytes of the length that a listed letter has

@@ -1,8 +1,9 @@
 // The messages of the feed: ten letters, read from their bytes and written to them.
 ghost use mathlib.Core.Path.{_≡_};
 ghost use Rattle.message.specs.Letters.{noTexts};
-ghost use Rattle.message.specs.Message.{refusalNumber, writeRefusalNumber, refused, judgedOf, readOf, outcome, writeOf};
+ghost use Rattle.message.specs.Message.{refusalNumber, writeRefusalNumber, refused, readOf, outcome, writeOf};
 
+pub mod judge;
 pub mod lengths;
 pub mod put;
 pub mod rules;
@@ -176,26 +177,13 @@ pub fn no_texts() -> Texts
     }
 }
 
-fn refuse(r: Refusal) -> Reading
+pub fn refuse(r: Refusal) -> Reading
     ensures { λ x. ⌜ x ≡ refused r ⌝ }
 {
     Reading {
         answer: Answer::Refused(r),
         texts: no_texts(),
     }
-}
-
-// A record with its texts, or the refusal of a field outside its list or range.
-fn judged(message: Message, texts: Texts) -> Reading
-    ensures { λ r. ⌜ r ≡ judgedOf message texts ⌝ }
-{
-    if rules::keep(message, texts) {
-        return Reading {
-            answer: Answer::Is(message),
-            texts,
-        };
-    }
-    refuse(Refusal::BadField)
 }
 
 pub fn read(bytes: &[u8]) -> Reading
@@ -212,7 +200,7 @@ pub fn read(bytes: &[u8]) -> Reading
     if bytes.len() != size {
         return refuse(Refusal::WrongLength);
     }
-    judged(take::message(letter, bytes), take::texts(letter, bytes))
+    judge::message(letter, bytes)
 }
 
 pub fn write(message: Message, texts: Texts, out: &mut [u8]) -> Written

@@ -66,32 +66,32 @@ pub fn keep_instrument(m: Instrument, t: Texts) -> bool
                                         & is_listed(m.variation, b"ESP")))))))))
 }
 
-fn keep_system_event(m: SystemEvent) -> bool
+pub fn keep_system_event(m: SystemEvent) -> bool
     ensures { λ r. ⌜ r ≡ keepsAll systemEventRows (systemEventFields m) ⌝ }
 {
     limits::time_in_range(m.stamp.time) & is_listed(m.code, b"OSQNLECW")
 }
 
-fn keep_directory(m: Directory, t: Texts) -> bool
+pub fn keep_directory(m: Directory, t: Texts) -> bool
     ensures { λ r. ⌜ r ≡ keepsAll directoryRows (directoryFields m t) ⌝ }
 {
     let instrument = m.instrument;
     limits::time_in_range(m.stamp.time) & keep_instrument(instrument, t)
 }
 
-fn keep_trading_action(m: TradingAction) -> bool
+pub fn keep_trading_action(m: TradingAction) -> bool
     ensures { λ r. ⌜ r ≡ keepsAll tradingActionRows (tradingActionFields m) ⌝ }
 {
     limits::time_in_range(m.stamp.time) & is_listed(m.state, b"BSHTIORX")
 }
 
-fn keep_short_quote(m: ShortQuote) -> bool
+pub fn keep_short_quote(m: ShortQuote) -> bool
     ensures { λ r. ⌜ r ≡ keepsAll shortQuoteRows (shortQuoteFields m) ⌝ }
 {
     limits::time_in_range(m.stamp.time) & is_listed(m.condition, b" XY")
 }
 
-fn keep_long_quote(m: LongQuote) -> bool
+pub fn keep_long_quote(m: LongQuote) -> bool
     ensures { λ r. ⌜ r ≡ keepsAll longQuoteRows (longQuoteFields m) ⌝ }
 {
     limits::time_in_range(m.stamp.time)
@@ -99,20 +99,20 @@ fn keep_long_quote(m: LongQuote) -> bool
             & (limits::price_in_range(m.bid.price) & limits::price_in_range(m.ask.price)))
 }
 
-fn keep_short_side(m: ShortSide) -> bool
+pub fn keep_short_side(m: ShortSide) -> bool
     ensures { λ r. ⌜ r ≡ keepsAll shortSideRows (shortSideFields m) ⌝ }
 {
     limits::time_in_range(m.stamp.time) & is_listed(m.condition, b" XY")
 }
 
-fn keep_long_side(m: LongSide) -> bool
+pub fn keep_long_side(m: LongSide) -> bool
     ensures { λ r. ⌜ r ≡ keepsAll longSideRows (longSideFields m) ⌝ }
 {
     limits::time_in_range(m.stamp.time)
         & (is_listed(m.condition, b" XY") & limits::price_in_range(m.numbers.price))
 }
 
-fn keep_end_of_replay(m: EndOfReplay) -> bool
+pub fn keep_end_of_replay(m: EndOfReplay) -> bool
     ensures { λ r. ⌜ r ≡ keepsAll endOfReplayRows (endOfReplayFields m) ⌝ }
 {
     limits::number_in_range(m.number)

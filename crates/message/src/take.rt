@@ -19,8 +19,7 @@ ghost use mathlib.Core.Path.{_≡_};
 ghost use Prim.Native.Nat.{_+_, _≤_};
 ghost use lib.ListN.{length};
 ghost use Rattle.message.specs.Layout.{values};
-ghost use Rattle.message.specs.Letters.{letters, letterIn, stampRows, stampOf, systemEventRows, systemEventOf, entryRows, instrumentOf, textsOf, directoryRows, directoryOf, tradingActionRows, tradingActionOf, shortNumbersRows, shortNumbersOf, longNumbersRows, longNumbersOf, shortQuoteRows, shortQuoteOf, longQuoteRows, longQuoteOf, shortSideRows, shortSideOf, longSideRows, longSideOf, endOfReplayRows, endOfReplayOf};
-ghost use Rattle.message.specs.Message.{Sized};
+ghost use Rattle.message.specs.Letters.{stampRows, stampOf, systemEventRows, systemEventOf, entryRows, instrumentOf, textsOf, directoryRows, directoryOf, tradingActionRows, tradingActionOf, shortNumbersRows, shortNumbersOf, longNumbersRows, longNumbersOf, shortQuoteRows, shortQuoteOf, longQuoteRows, longQuoteOf, shortSideRows, shortSideOf, longSideRows, longSideOf, endOfReplayRows, endOfReplayOf};
 
 fn stamp(bytes: &[u8]) -> Stamp
     requires { ⌜ 11 ≤ length (now bytes) ⌝ }
@@ -93,7 +92,7 @@ pub fn instrument_texts(entry: &[u8]) -> Texts
     }
 }
 
-fn system_event(bytes: &[u8]) -> SystemEvent
+pub fn system_event(bytes: &[u8]) -> SystemEvent
     requires { ⌜ 12 ≤ length (now bytes) ⌝ }
     ensures { λ r. ⌜ r ≡ systemEventOf (values systemEventRows (now (bytes .entry))) ⌝ }
 {
@@ -103,7 +102,7 @@ fn system_event(bytes: &[u8]) -> SystemEvent
     }
 }
 
-fn directory(bytes: &[u8]) -> Directory
+pub fn directory(bytes: &[u8]) -> Directory
     requires { ⌜ 63 ≤ length (now bytes) ⌝ }
     ensures { λ r. ⌜ r ≡ directoryOf (values directoryRows (now (bytes .entry))) ⌝ }
 {
@@ -113,7 +112,7 @@ fn directory(bytes: &[u8]) -> Directory
     }
 }
 
-fn trading_action(bytes: &[u8]) -> TradingAction
+pub fn trading_action(bytes: &[u8]) -> TradingAction
     requires { ⌜ 16 ≤ length (now bytes) ⌝ }
     ensures { λ r. ⌜ r ≡ tradingActionOf (values tradingActionRows (now (bytes .entry))) ⌝ }
 {
@@ -124,7 +123,7 @@ fn trading_action(bytes: &[u8]) -> TradingAction
     }
 }
 
-fn short_quote(bytes: &[u8]) -> ShortQuote
+pub fn short_quote(bytes: &[u8]) -> ShortQuote
     requires { ⌜ 36 ≤ length (now bytes) ⌝ }
     ensures { λ r. ⌜ r ≡ shortQuoteOf (values shortQuoteRows (now (bytes .entry))) ⌝ }
 {
@@ -137,7 +136,7 @@ fn short_quote(bytes: &[u8]) -> ShortQuote
     }
 }
 
-fn long_quote(bytes: &[u8]) -> LongQuote
+pub fn long_quote(bytes: &[u8]) -> LongQuote
     requires { ⌜ 56 ≤ length (now bytes) ⌝ }
     ensures { λ r. ⌜ r ≡ longQuoteOf (values longQuoteRows (now (bytes .entry))) ⌝ }
 {
@@ -150,7 +149,7 @@ fn long_quote(bytes: &[u8]) -> LongQuote
     }
 }
 
-fn short_side(bytes: &[u8], side: Side) -> ShortSide
+pub fn short_side(bytes: &[u8], side: Side) -> ShortSide
     requires { ⌜ 26 ≤ length (now bytes) ⌝ }
     ensures { λ r. ⌜ r ≡ shortSideOf side (values shortSideRows (now (bytes .entry))) ⌝ }
 {
@@ -163,7 +162,7 @@ fn short_side(bytes: &[u8], side: Side) -> ShortSide
     }
 }
 
-fn long_side(bytes: &[u8], side: Side) -> LongSide
+pub fn long_side(bytes: &[u8], side: Side) -> LongSide
     requires { ⌜ 36 ≤ length (now bytes) ⌝ }
     ensures { λ r. ⌜ r ≡ longSideOf side (values longSideRows (now (bytes .entry))) ⌝ }
 {
@@ -177,41 +176,12 @@ fn long_side(bytes: &[u8], side: Side) -> LongSide
 }
 
 // Characters that write no number give 0, which breaks the record's rule.
-fn end_of_replay(bytes: &[u8]) -> EndOfReplay
+pub fn end_of_replay(bytes: &[u8]) -> EndOfReplay
     requires { ⌜ 21 ≤ length (now bytes) ⌝ }
     ensures { λ r. ⌜ r ≡ endOfReplayOf (values endOfReplayRows (now (bytes .entry))) ⌝ }
 {
     match decimal::number_before_spaces(bytes, 1, 20) {
         decimal::Number::Is(number) => EndOfReplay { number },
         decimal::Number::Bad => EndOfReplay { number: 0 },
-    }
-}
-
-pub fn message(letter: u8, bytes: &[u8]) -> Message
-    requires { ⌜ Sized (letterIn letters letter) (now bytes) ⌝ }
-    ensures { λ r. ⌜ r ≡ letterIn letters letter .makes (values (letterIn letters letter .rows) (now (bytes .entry))) ⌝ }
-{
-    match letter {
-        b'S' => Message::SystemEvent(system_event(bytes)),
-        b'm' => Message::Directory(directory(bytes)),
-        b'H' => Message::TradingAction(trading_action(bytes)),
-        b'q' => Message::ShortQuote(short_quote(bytes)),
-        b'Q' => Message::LongQuote(long_quote(bytes)),
-        b'b' => Message::ShortSide(short_side(bytes, Side::Bid)),
-        b'a' => Message::ShortSide(short_side(bytes, Side::Ask)),
-        b'B' => Message::LongSide(long_side(bytes, Side::Bid)),
-        b'A' => Message::LongSide(long_side(bytes, Side::Ask)),
-        _ => Message::EndOfReplay(end_of_replay(bytes)),
-    }
-}
-
-pub fn texts(letter: u8, bytes: &[u8]) -> Texts
-    requires { ⌜ Sized (letterIn letters letter) (now bytes) ⌝ }
-    ensures { λ r. ⌜ r ≡ letterIn letters letter .texts (values (letterIn letters letter .rows) (now (bytes .entry))) ⌝ }
-{
-    if letter == b'm' {
-        instrument_texts(&bytes[11..63])
-    } else {
-        crate::no_texts()
     }
 }

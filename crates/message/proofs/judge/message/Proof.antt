@@ -1,11 +1,9 @@
--- `message::take::message` meets its contract.
+-- `message::judge::message` meets its contract.
 -- Assumes nothing.
-use mathlib.Core.Path.{ap}
 use Rattle.message.specs.Letters.{letters, letterIn}
-use Rattle.message.specs.declared.Message.the-variants as message
 use Rattle.message.proofs.Table.{arm, room, last-arm}
-use Rattle.message.proofs.take.message.Statement.{statement}
-use Rattle.message.proofs.take.message.Tie as tie
+use Rattle.message.proofs.judge.message.Statement.{statement}
+use Rattle.message.proofs.judge.message.Tie as tie
 
 system-event-requires : tie.Need-system-event-requires
 unfolding letters letterIn
@@ -49,43 +47,43 @@ end-of-replay-requires c κs = let r = c .match .rest in room 77 _ _ (last-arm _
 
 returns : tie.Need-returns
 unfolding letters letterIn
-returns c = arm 83 _ _ (c .before .match .keys1) (ap message.SystemEvent (c .system-event .ensures))
+returns c = arm 83 _ _ (c .before .match .keys1) (c .system-event .ensures)
 
 returns-2 : tie.Need-returns-2
 unfolding letters letterIn
-returns-2 c = arm 109 _ _ (c .before .match .keys2) (ap message.Directory (c .directory .ensures))
+returns-2 c = arm 109 _ _ (c .before .match .keys2) (c .directory .ensures)
 
 returns-3 : tie.Need-returns-3
 unfolding letters letterIn
-returns-3 c = arm 72 _ _ (c .before .match .keys3) (ap message.TradingAction (c .trading-action .ensures))
+returns-3 c = arm 72 _ _ (c .before .match .keys3) (c .trading-action .ensures)
 
 returns-4 : tie.Need-returns-4
 unfolding letters letterIn
-returns-4 c = arm 113 _ _ (c .before .match .keys4) (ap message.ShortQuote (c .short-quote .ensures))
+returns-4 c = arm 113 _ _ (c .before .match .keys4) (c .short-quote .ensures)
 
 returns-5 : tie.Need-returns-5
 unfolding letters letterIn
-returns-5 c = arm 81 _ _ (c .before .match .keys5) (ap message.LongQuote (c .long-quote .ensures))
+returns-5 c = arm 81 _ _ (c .before .match .keys5) (c .long-quote .ensures)
 
 returns-6 : tie.Need-returns-6
 unfolding letters letterIn
-returns-6 c = arm 98 _ _ (c .before .match .keys6) (ap message.ShortSide (c .short-side .ensures))
+returns-6 c = arm 98 _ _ (c .before .match .keys6) (c .short-side .ensures)
 
 returns-7 : tie.Need-returns-7
 unfolding letters letterIn
-returns-7 c = arm 97 _ _ (c .before .match .keys7) (ap message.ShortSide (c .short-side2 .ensures))
+returns-7 c = arm 97 _ _ (c .before .match .keys7) (c .short-side2 .ensures)
 
 returns-8 : tie.Need-returns-8
 unfolding letters letterIn
-returns-8 c = arm 66 _ _ (c .before .match .keys8) (ap message.LongSide (c .long-side .ensures))
+returns-8 c = arm 66 _ _ (c .before .match .keys8) (c .long-side .ensures)
 
 returns-9 : tie.Need-returns-9
 unfolding letters letterIn
-returns-9 c = arm 65 _ _ (c .before .match .keys9) (ap message.LongSide (c .long-side2 .ensures))
+returns-9 c = arm 65 _ _ (c .before .match .keys9) (c .long-side2 .ensures)
 
 returns-10 : tie.Need-returns-10
 unfolding letters letterIn
-returns-10 c = let r = c .before .match .rest in arm 77 _ _ (last-arm _ (r .0 .0 .0 .0 .0 .0 .0 .0 .1) (r .0 .0 .0 .0 .0 .0 .0 .1) (r .0 .0 .0 .0 .0 .0 .1) (r .0 .0 .0 .0 .0 .1) (r .0 .0 .0 .0 .1) (r .0 .0 .0 .1) (r .0 .0 .1) (r .0 .1) (r .1) (c .before .before .before .pre .isListed)) (ap message.EndOfReplay (c .end-of-replay .ensures))
+returns-10 c = let r = c .before .match .rest in arm 77 _ _ (last-arm _ (r .0 .0 .0 .0 .0 .0 .0 .0 .1) (r .0 .0 .0 .0 .0 .0 .0 .1) (r .0 .0 .0 .0 .0 .0 .1) (r .0 .0 .0 .0 .0 .1) (r .0 .0 .0 .0 .1) (r .0 .0 .0 .1) (r .0 .0 .1) (r .0 .1) (r .1) (c .before .before .before .pre .isListed)) (c .end-of-replay .ensures)
 
 pub message-spec : {M : Type 1} → statement M
 message-spec =
