@@ -4,6 +4,7 @@ use crate::Message;
 use crate::Reading;
 use crate::Refusal;
 use crate::Side;
+use crate::entry;
 use crate::rules;
 use crate::take;
 ghost use mathlib.Core.Path.{_≡_};
@@ -32,7 +33,7 @@ fn directory(bytes: &[u8]) -> Reading
     ensures { λ r. ⌜ r ≡ readFields directoryLetter (values directoryRows (now (bytes .entry))) ⌝ }
 {
     let m = take::directory(bytes);
-    let texts = take::instrument_texts(&bytes[11..63]);
+    let texts = entry::texts(&bytes[11..63]);
     if rules::keep_directory(m, texts) {
         return Reading {
             answer: Answer::Is(Message::Directory(m)),

@@ -3,11 +3,13 @@ ghost use mathlib.Core.Path.{_≡_};
 ghost use Rattle.message.specs.Letters.{noTexts};
 ghost use Rattle.message.specs.Message.{refusalNumber, writeRefusalNumber, refused, readOf, outcome, writeOf};
 
-pub mod judge;
+pub mod codes;
+pub mod entry;
+mod judge;
 pub mod lengths;
-pub mod put;
-pub mod rules;
-pub mod take;
+mod put;
+mod rules;
+mod take;
 
 // The tracking number, and the nanoseconds since midnight.
 pub struct Stamp {

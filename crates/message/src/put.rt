@@ -1,7 +1,6 @@
 // Records put into bytes, from the start of the memory that is lent.
 use crate::Directory;
 use crate::EndOfReplay;
-use crate::Instrument;
 use crate::LongNumbers;
 use crate::LongQuote;
 use crate::LongSide;
@@ -14,15 +13,16 @@ use crate::Stamp;
 use crate::SystemEvent;
 use crate::Texts;
 use crate::TradingAction;
+use crate::entry;
 use field::decimal;
 ghost use mathlib.Core.Path.{_≡_};
-ghost use mathlib.Core.List.{_∷_, _++_};
+ghost use mathlib.Core.List.{_∷_};
 ghost use Prim.Native.Nat.{_+_, _≤_};
 ghost use lib.ListN.{length};
-ghost use Rattle.field.specs.Bytes.{overlay, bytesBe};
+ghost use Rattle.field.specs.Bytes.{overlay};
 ghost use Rattle.message.specs.Layout.{bytesFor};
-ghost use Rattle.message.specs.Letters.{letterFor, stampRows, stampFields, systemEventRows, systemEventFields, instrumentRows, instrumentFields, directoryRows, directoryFields, quoteRows, quoteFields, tradingActionRows, tradingActionFields, shortNumbersRows, shortNumbersFields, longNumbersRows, longNumbersFields, shortQuoteRows, shortQuoteFields, longQuoteRows, longQuoteFields, shortSideCode, shortSideRows, shortSideFields, longSideCode, longSideRows, longSideFields, endOfReplayRows, endOfReplayFields};
-ghost use Rattle.message.specs.Message.{bytesOf, keeps};
+ghost use Rattle.message.specs.Letters.{letterFor, stampRows, stampFields, systemEventRows, systemEventFields, directoryRows, directoryFields, quoteRows, quoteFields, tradingActionRows, tradingActionFields, shortNumbersRows, shortNumbersFields, longNumbersRows, longNumbersFields, shortQuoteRows, shortQuoteFields, longQuoteRows, longQuoteFields, shortSideCode, shortSideRows, shortSideFields, longSideCode, longSideRows, longSideFields, endOfReplayRows, endOfReplayFields};
+ghost use Rattle.message.specs.Message.{bytesOf};
 
 // The letter and the stamp: eleven bytes.
 fn stamp(out: &mut [u8], letter: u8, s: Stamp)
@@ -66,96 +66,6 @@ fn long_numbers(out: &mut [u8], at: usize, n: LongNumbers)
     field::write4(out, at + 16, n.professional);
 }
 
-fn symbol(out: &mut [u8], t: Texts)
-    requires { ⌜ 12 ≤ length (now out) ⌝ }
-    ensures { λ r. ⌜ now (out .exit) ≡ overlay (now (out .entry)) 4 (t .symbol) ⌝ }
-{
-    let symbol = t.symbol;
-    field::copy(&symbol, 0, 8, out, 4);
-}
-
-fn underlying(out: &mut [u8], t: Texts)
-    requires { ⌜ 33 ≤ length (now out) ⌝ }
-    ensures { λ r. ⌜ now (out .exit) ≡ overlay (now (out .entry)) 20 (t .underlying) ⌝ }
-{
-    let underlying = t.underlying;
-    field::copy(&underlying, 0, 13, out, 20);
-}
-
-fn reserved(out: &mut [u8], t: Texts)
-    requires { ⌜ 52 ≤ length (now out) ⌝ }
-    ensures { λ r. ⌜ now (out .exit) ≡ overlay (now (out .entry)) 36 (t .reserved) ⌝ }
-{
-    let reserved = t.reserved;
-    field::copy(&reserved, 0, 16, out, 36);
-}
-
-fn date(out: &mut [u8], m: Instrument)
-    requires { ⌜ 15 ≤ length (now out) ⌝ }
-    ensures { λ r. ⌜
-        now (out .exit)
-        ≡ overlay (now (out .entry)) 12 (bytesBe 1 (m .year) ++ (bytesBe 1 (m .month) ++ bytesBe 1 (m .day)))
-        ⌝ }
-{
-    field::write1(out, 12, m.year);
-    field::write1(out, 13, m.month);
-    field::write1(out, 14, m.day);
-}
-
-// The fields that may not change: symbol, date, strike and type.
-fn terms(out: &mut [u8], m: Instrument, t: Texts)
-    requires { ⌜ 20 ≤ length (now out) ⌝ }
-    ensures { λ r. ⌜
-        now (out .exit)
-        ≡ overlay (now (out .entry)) 4
-        (t .symbol
-        ++ ((bytesBe 1 (m .year) ++ (bytesBe 1 (m .month) ++ bytesBe 1 (m .day)))
-        ++ (bytesBe 4 (m .strike) ++ bytesBe 1 (m .kind))))
-        ⌝ }
-{
-    symbol(out, t);
-    date(out, m);
-    field::write4(out, 15, m.strike);
-    field::write1(out, 19, m.kind);
-}
-
-fn marks(out: &mut [u8], m: Instrument)
-    requires { ⌜ 36 ≤ length (now out) ⌝ }
-    ensures { λ r. ⌜
-        now (out .exit)
-        ≡ overlay (now (out .entry)) 33 (bytesBe 1 (m .closing) ++ (bytesBe 1 (m .tradable) ++ bytesBe 1 (m .variation)))
-        ⌝ }
-{
-    field::write1(out, 33, m.closing);
-    field::write1(out, 34, m.tradable);
-    field::write1(out, 35, m.variation);
-}
-
-// The fields that may change: underlying, closing, tradable, variation and reserved.
-fn market(out: &mut [u8], m: Instrument, t: Texts)
-    requires { ⌜ 52 ≤ length (now out) ⌝ }
-    ensures { λ r. ⌜
-        now (out .exit)
-        ≡ overlay (now (out .entry)) 20
-        (t .underlying
-        ++ ((bytesBe 1 (m .closing) ++ (bytesBe 1 (m .tradable) ++ bytesBe 1 (m .variation))) ++ t .reserved))
-        ⌝ }
-{
-    underlying(out, t);
-    marks(out, m);
-    reserved(out, t);
-}
-
-// The 52 bytes that a directory and a table's row share.
-pub fn instrument(out: &mut [u8], m: Instrument, t: Texts)
-    requires { ⌜ 52 ≤ length (now out) ⌝ }
-    ensures { λ r. ⌜ now (out .exit) ≡ overlay (now (out .entry)) 0 (bytesFor instrumentRows (instrumentFields m t)) ⌝ }
-{
-    field::write4(out, 0, m.id);
-    terms(out, m, t);
-    market(out, m, t);
-}
-
 fn system_event(out: &mut [u8], m: SystemEvent)
     requires { ⌜ 12 ≤ length (now out) ⌝ }
     ensures { λ r. ⌜ now (out .exit) ≡ overlay (now (out .entry)) 0 (83 ∷ bytesFor systemEventRows (systemEventFields m)) ⌝ }
@@ -172,7 +82,7 @@ fn directory(out: &mut [u8], m: Directory, t: Texts)
     let s = m.stamp;
     let i = m.instrument;
     stamp(out, b'm', s);
-    instrument(&mut out[11..63], i, t);
+    entry::put(&mut out[11..63], i, t);
 }
 
 fn trading_action(out: &mut [u8], m: TradingAction)

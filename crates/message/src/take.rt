@@ -1,25 +1,23 @@
 // Records taken from bytes of their letter's length.
 use crate::Directory;
 use crate::EndOfReplay;
-use crate::Instrument;
 use crate::LongNumbers;
 use crate::LongQuote;
 use crate::LongSide;
-use crate::Message;
 use crate::ShortNumbers;
 use crate::ShortQuote;
 use crate::ShortSide;
 use crate::Side;
 use crate::Stamp;
 use crate::SystemEvent;
-use crate::Texts;
 use crate::TradingAction;
+use crate::entry;
 use field::decimal;
 ghost use mathlib.Core.Path.{_≡_};
 ghost use Prim.Native.Nat.{_+_, _≤_};
 ghost use lib.ListN.{length};
 ghost use Rattle.message.specs.Layout.{values};
-ghost use Rattle.message.specs.Letters.{stampRows, stampOf, systemEventRows, systemEventOf, entryRows, instrumentOf, textsOf, directoryRows, directoryOf, tradingActionRows, tradingActionOf, shortNumbersRows, shortNumbersOf, longNumbersRows, longNumbersOf, shortQuoteRows, shortQuoteOf, longQuoteRows, longQuoteOf, shortSideRows, shortSideOf, longSideRows, longSideOf, endOfReplayRows, endOfReplayOf};
+ghost use Rattle.message.specs.Letters.{stampRows, stampOf, systemEventRows, systemEventOf, directoryRows, directoryOf, tradingActionRows, tradingActionOf, shortNumbersRows, shortNumbersOf, longNumbersRows, longNumbersOf, shortQuoteRows, shortQuoteOf, longQuoteRows, longQuoteOf, shortSideRows, shortSideOf, longSideRows, longSideOf, endOfReplayRows, endOfReplayOf};
 
 fn stamp(bytes: &[u8]) -> Stamp
     requires { ⌜ 11 ≤ length (now bytes) ⌝ }
@@ -57,41 +55,6 @@ fn long_numbers(bytes: &[u8], at: usize) -> LongNumbers
     }
 }
 
-// The fields of the 52 bytes that a directory and a table's row share.
-pub fn instrument(entry: &[u8]) -> Instrument
-    requires { ⌜ 52 ≤ length (now entry) ⌝ }
-    ensures { λ r. ⌜ r ≡ instrumentOf (values entryRows (now (entry .entry))) ⌝ }
-{
-    Instrument {
-        id: field::read4(entry, 0),
-        year: field::read1(entry, 12),
-        month: field::read1(entry, 13),
-        day: field::read1(entry, 14),
-        strike: field::read4(entry, 15),
-        kind: field::read1(entry, 19),
-        closing: field::read1(entry, 33),
-        tradable: field::read1(entry, 34),
-        variation: field::read1(entry, 35),
-    }
-}
-
-pub fn instrument_texts(entry: &[u8]) -> Texts
-    requires { ⌜ 52 ≤ length (now entry) ⌝ }
-    ensures { λ r. ⌜ r ≡ textsOf (values entryRows (now (entry .entry))) ⌝ }
-{
-    let mut symbol = [0; 8];
-    field::copy(entry, 4, 8, &mut symbol, 0);
-    let mut underlying = [0; 13];
-    field::copy(entry, 20, 13, &mut underlying, 0);
-    let mut reserved = [0; 16];
-    field::copy(entry, 36, 16, &mut reserved, 0);
-    Texts {
-        symbol,
-        underlying,
-        reserved,
-    }
-}
-
 pub fn system_event(bytes: &[u8]) -> SystemEvent
     requires { ⌜ 12 ≤ length (now bytes) ⌝ }
     ensures { λ r. ⌜ r ≡ systemEventOf (values systemEventRows (now (bytes .entry))) ⌝ }
@@ -108,7 +71,7 @@ pub fn directory(bytes: &[u8]) -> Directory
 {
     Directory {
         stamp: stamp(bytes),
-        instrument: instrument(&bytes[11..63]),
+        instrument: entry::instrument(&bytes[11..63]),
     }
 }
 

@@ -13,4 +13,4 @@ returns c = simp and-true (cc)
 pub keep-long-side-spec : {M : Type 1} → statement M
 keep-long-side-spec =
     tie.close
-    (tie.spec (λ c κs. search needs) (λ c. search needs) (λ c κs. search needs) (λ c κs. search needs) returns)
+    (tie.spec (λ c κs. search needs) (λ c κs. search needs) (λ c κs. search needs) returns)

@@ -11,6 +11,4 @@ unfolding keepsAll
 returns c = simp and-true (cc)
 
 pub keep-short-side-spec : {M : Type 1} → statement M
-keep-short-side-spec =
-    tie.close
-    (tie.spec (λ c κs. search needs) (λ c. search needs) (λ c κs. search needs) returns)
+keep-short-side-spec = tie.close (tie.spec (λ c κs. search needs) (λ c κs. search needs) returns)

@@ -1,12 +1,12 @@
--- `message::put::reserved` meets its contract.
+-- `message::entry::reserved` meets its contract.
 -- Assumes nothing.
 use mathlib.Core.Path.{_≡_}
 use native.Mathlib.Omega.{arith}
 use lib.ListN.{length}
 use borrow.Author.Needs.{needs}
 use Rattle.message.proofs.Puts.{text-put}
-use Rattle.message.proofs.put.reserved.Statement.{statement}
-use Rattle.message.proofs.put.reserved.Tie as tie
+use Rattle.message.proofs.entry.reserved.Statement.{statement}
+use Rattle.message.proofs.entry.reserved.Tie as tie
 
 copy-requires : tie.Need-copy-requires
 copy-requires c κs = let h : length (c .before .before .before .before .args .t .reserved) ≡ 16 = search needs in (omega arith, omega arith)

@@ -1,9 +1,9 @@
--- `message::put::date` meets its contract.
+-- `message::entry::date` meets its contract.
 -- Assumes nothing.
 use borrow.Author.Needs.{needs}
 use Rattle.message.proofs.Puts.{marks-put}
-use Rattle.message.proofs.put.date.Statement.{statement}
-use Rattle.message.proofs.put.date.Tie as tie
+use Rattle.message.proofs.entry.date.Statement.{statement}
+use Rattle.message.proofs.entry.date.Tie as tie
 
 returns : tie.Need-returns
 returns c = search (marks-put 12, needs)

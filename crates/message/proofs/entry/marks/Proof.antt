@@ -1,9 +1,9 @@
--- `message::put::marks` meets its contract.
+-- `message::entry::marks` meets its contract.
 -- Assumes nothing.
 use borrow.Author.Needs.{needs}
 use Rattle.message.proofs.Puts.{marks-put}
-use Rattle.message.proofs.put.marks.Statement.{statement}
-use Rattle.message.proofs.put.marks.Tie as tie
+use Rattle.message.proofs.entry.marks.Statement.{statement}
+use Rattle.message.proofs.entry.marks.Tie as tie
 
 returns : tie.Need-returns
 returns c = search (marks-put 33, needs)

@@ -1,9 +1,9 @@
--- `message::take::instrument_texts` meets its contract.
+-- `message::entry::texts` meets its contract.
 -- Assumes nothing.
 use borrow.Author.Needs.{needs}
 use Rattle.message.proofs.Ways.{texts-copied}
-use Rattle.message.proofs.take.instrument_texts.Statement.{statement}
-use Rattle.message.proofs.take.instrument_texts.Tie as tie
+use Rattle.message.proofs.entry.texts.Statement.{statement}
+use Rattle.message.proofs.entry.texts.Tie as tie
 
 returns : tie.Need-returns
 returns c =
@@ -13,7 +13,7 @@ returns c =
     let s0 = s1 .before .before .before in
     texts-copied (s0 .args .entry .now) (s0 .pre) (s1 .copy .ensures) (s2 .copy2 .ensures) (s3 .copy3 .ensures)
 
-pub instrument-texts-spec : {M : Type 1} → statement M
-instrument-texts-spec =
+pub texts-spec : {M : Type 1} → statement M
+texts-spec =
     tie.close
     (tie.spec (λ c. search needs) (λ c κs. search needs) (λ c. search needs) (λ c κs. search needs) (λ c. search needs) (λ c κs. search needs) returns)

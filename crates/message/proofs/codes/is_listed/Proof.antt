@@ -1,4 +1,4 @@
--- `message::rules::is_listed` meets its contract: what is passed of the list does not have the code.
+-- `message::codes::is_listed` meets its contract: what is passed of the list does not have the code.
 -- Assumes nothing.
 use mathlib.Core.Path.{_≡_, refl, sym, _∙_}
 use Prim.Native.Nat.{_≤_, _-_}
@@ -6,8 +6,8 @@ use lib.ListN.{length, drop}
 use borrow.Author.Needs.{needs}
 use Rattle.message.specs.Letters.{listed}
 use Rattle.message.proofs.Table.{listed-here, listed-on, listed-none}
-use Rattle.message.proofs.rules.is_listed.Statement.{statement}
-use Rattle.message.proofs.rules.is_listed.Tie as tie
+use Rattle.message.proofs.codes.is_listed.Statement.{statement}
+use Rattle.message.proofs.codes.is_listed.Tie as tie
 
 abbrev Inv-loop : tie.InvT-loop
 Inv-loop code list i₀ i = (i ≤ length list) × (listed list code ≡ listed (drop i list) code)

@@ -1,12 +1,12 @@
--- `message::rules::is_symbol` meets its contract.
+-- `message::entry::is_symbol` meets its contract.
 -- Assumes nothing.
 use mathlib.Core.Path.{_≡_}
 use native.Mathlib.Omega.{arith}
 use lib.ListN.{length}
 use borrow.Author.Needs.{needs}
 use Rattle.message.proofs.Ways.{text-whole}
-use Rattle.message.proofs.rules.is_symbol.Statement.{statement}
-use Rattle.message.proofs.rules.is_symbol.Tie as tie
+use Rattle.message.proofs.entry.is_symbol.Statement.{statement}
+use Rattle.message.proofs.entry.is_symbol.Tie as tie
 
 is-text-requires : tie.Need-is-text-requires
 is-text-requires c κs = let h : length (c .before .before .args .t .symbol) ≡ 8 = search needs in omega arith

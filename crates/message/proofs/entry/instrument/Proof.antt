@@ -1,9 +1,9 @@
--- `message::take::instrument` meets its contract.
+-- `message::entry::instrument` meets its contract.
 -- Assumes nothing.
 use borrow.Author.Needs.{needs}
 use Rattle.message.specs.Layout.{values}
-use Rattle.message.proofs.take.instrument.Statement.{statement}
-use Rattle.message.proofs.take.instrument.Tie as tie
+use Rattle.message.proofs.entry.instrument.Statement.{statement}
+use Rattle.message.proofs.entry.instrument.Tie as tie
 
 returns : tie.Need-returns
 unfolding values

@@ -1,9 +1,9 @@
--- `message::put::market` meets its contract.
+-- `message::entry::market` meets its contract.
 -- Assumes nothing.
 use borrow.Author.Needs.{needs}
 use Rattle.message.proofs.Puts.{market-put}
-use Rattle.message.proofs.put.market.Statement.{statement}
-use Rattle.message.proofs.put.market.Tie as tie
+use Rattle.message.proofs.entry.market.Statement.{statement}
+use Rattle.message.proofs.entry.market.Tie as tie
 
 returns : tie.Need-returns
 returns c = search (market-put, needs)

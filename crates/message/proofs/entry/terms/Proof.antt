@@ -1,9 +1,9 @@
--- `message::put::terms` meets its contract.
+-- `message::entry::terms` meets its contract.
 -- Assumes nothing.
 use borrow.Author.Needs.{needs}
 use Rattle.message.proofs.Puts.{terms-put}
-use Rattle.message.proofs.put.terms.Statement.{statement}
-use Rattle.message.proofs.put.terms.Tie as tie
+use Rattle.message.proofs.entry.terms.Statement.{statement}
+use Rattle.message.proofs.entry.terms.Tie as tie
 
 returns : tie.Need-returns
 returns c = search (terms-put, needs)

@@ -1,12 +1,12 @@
--- `message::put::symbol` meets its contract.
+-- `message::entry::symbol` meets its contract.
 -- Assumes nothing.
 use mathlib.Core.Path.{_≡_}
 use native.Mathlib.Omega.{arith}
 use lib.ListN.{length}
 use borrow.Author.Needs.{needs}
 use Rattle.message.proofs.Puts.{text-put}
-use Rattle.message.proofs.put.symbol.Statement.{statement}
-use Rattle.message.proofs.put.symbol.Tie as tie
+use Rattle.message.proofs.entry.symbol.Statement.{statement}
+use Rattle.message.proofs.entry.symbol.Tie as tie
 
 copy-requires : tie.Need-copy-requires
 copy-requires c κs = let h : length (c .before .before .before .before .args .t .symbol) ≡ 8 = search needs in (omega arith, omega arith)

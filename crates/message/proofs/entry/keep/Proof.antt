@@ -1,0 +1,16 @@
+-- `message::entry::keep` meets its contract.
+-- Assumes nothing.
+use mathlib.Core.Bool.{and-true}
+use borrow.Author.Needs.{needs}
+use Rattle.message.specs.Layout.{keepsAll}
+use Rattle.message.proofs.entry.keep.Statement.{statement}
+use Rattle.message.proofs.entry.keep.Tie as tie
+
+returns : tie.Need-returns
+unfolding keepsAll
+returns c = simp and-true (cc)
+
+pub keep-spec : {M : Type 1} → statement M
+keep-spec =
+    tie.close
+    (tie.spec (λ c κs. search needs) (λ c κs. search needs) (λ c κs. search needs) (λ c κs. search needs) (λ c κs. search needs) (λ c κs. search needs) (λ c κs. search needs) (λ c κs. search needs) (λ c κs. search needs) (λ c κs. search needs) returns)
