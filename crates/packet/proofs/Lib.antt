@@ -1,0 +1,13 @@
+pub mod Rules
+pub mod Ways
+pub mod Frame
+pub mod Cut
+pub mod Step
+pub mod Seen
+pub mod Mend
+pub mod Known
+pub mod Keep
+pub mod Numbers
+pub mod Refused
+pub mod Resume
+mod Examples

@@ -1,0 +1,7 @@
+pub mod Refusals
+pub mod Frame
+pub mod Stream
+pub mod Numbering
+pub mod Table
+pub mod Line
+pub mod Session

@@ -1,0 +1,234 @@
+// Packets from the server: framing, the packet table, the session line and its login. What a message does is not known here.
+use crate::table::Entry;
+use crate::table::Meaning;
+use field::decimal::Number;
+ghost use mathlib.Core.Path.{_≡_};
+ghost use Prim.Native.Nat.{_+_, _≤_, _<_};
+ghost use lib.ListN.{length};
+ghost use Rattle.field.specs.Bytes.{part, overlay};
+ghost use Rattle.field.specs.Limits.{highestNumber};
+ghost use Rattle.packet.specs.Refusals.{faultNumber};
+ghost use Rattle.packet.specs.Frame.{heldSize, roomFor, frame, frontOf};
+ghost use Rattle.packet.specs.Line.{freshLine, waiting, loggedIn, counted, follows, loginOf, BodyFits, meantOf, packetOf};
+
+pub mod numbering;
+mod table;
+
+// The longest L.
+pub const LONGEST_PACKET: usize = 256;
+
+// The longest packet with its length bytes.
+pub const HELD_SIZE: usize = 258;
+
+// What stands at the front of some bytes; of a whole packet, its L.
+pub enum Framing {
+    Short,
+    BadLength,
+    Whole(usize),
+}
+
+// A session, and where the reader is in it: is the session known, is it logged in, the next number.
+pub struct Line {
+    pub session: [u8; 10],
+    pub known: bool,
+    pub logged: bool,
+    pub next: u64,
+}
+
+// Why a packet is refused.
+pub enum Fault {
+    BadLength,
+    UnknownLetter,
+    WrongPlace,
+    BadForm,
+    NotNext,
+    NumbersUsedUp,
+}
+
+// What a whole packet is to a line.
+pub enum Packet {
+    Login(u64),
+    Rejected(u8),
+    Message,
+    Heartbeat,
+    End,
+    Skipped,
+    Refused(Fault),
+}
+
+pub fn fault_number(f: Fault) -> u8
+    ensures { λ r. ⌜ r ≡ faultNumber f ⌝ }
+{
+    match f {
+        Fault::BadLength => 1,
+        Fault::UnknownLetter => 2,
+        Fault::WrongPlace => 3,
+        Fault::BadForm => 4,
+        Fault::NotNext => 5,
+        Fault::NumbersUsedUp => 6,
+    }
+}
+
+pub fn front(bytes: &[u8]) -> Framing
+    ensures { λ r. ⌜ r ≡ frontOf (frame (now (bytes .entry))) ⌝ }
+{
+    if bytes.len() < 2 {
+        return Framing::Short;
+    }
+    let size = field::read2(bytes, 0) as usize;
+    if size < 1 {
+        return Framing::BadLength;
+    }
+    if LONGEST_PACKET < size {
+        return Framing::BadLength;
+    }
+    if bytes.len() - 2 < size {
+        return Framing::Short;
+    }
+    Framing::Whole(size)
+}
+
+// How many bytes of a piece there is room for behind the held ones.
+pub fn room(used: usize, len: usize) -> usize
+    requires { ⌜ used ≤ heldSize ⌝ }
+    ensures { λ r. ⌜ r ≡ roomFor used len ⌝ }
+{
+    let free = HELD_SIZE - used;
+    if len < free {
+        return len;
+    }
+    free
+}
+
+// The held bytes, with the first n bytes of a piece behind those that are used.
+pub fn joined(held: [u8; HELD_SIZE], used: usize, piece: &[u8], n: usize) -> [u8; HELD_SIZE]
+    requires { ⌜ (used + n ≤ heldSize) × (n ≤ length (now piece)) ⌝ }
+    ensures { λ r. ⌜ r ≡ overlay held used (part (now (piece .entry)) 0 n) ⌝ }
+{
+    let mut out = held;
+    field::copy(piece, 0, n, &mut out, used);
+    out
+}
+
+// Does a login with the body's session and the number n go on where the line stands?
+fn login_follows(line: Line, body: &[u8], n: u64) -> bool
+    requires { ⌜ length (now body) ≡ 30 ⌝ }
+    ensures { λ r. ⌜ r ≡ follows line (part (now (body .entry)) 0 10) n ⌝ }
+{
+    if n == line.next {
+        if line.known {
+            let session = line.session;
+            return field::equal(&session, 0, body, 0, 10);
+        }
+        return true;
+    }
+    false
+}
+
+// A login: its session is the body's first 10 bytes, and its number the 20 after them.
+fn login(line: Line, body: &[u8]) -> Packet
+    requires { ⌜ length (now body) ≡ 30 ⌝ }
+    ensures { λ r. ⌜ r ≡ loginOf line (now (body .entry)) ⌝ }
+{
+    match field::decimal::number_after_spaces(body, 10, 20) {
+        Number::Bad => Packet::Refused(Fault::BadForm),
+        Number::Is(n) => {
+            if login_follows(line, body, n) {
+                return Packet::Login(n);
+            }
+            Packet::Refused(Fault::NotNext)
+        }
+    }
+}
+
+// A packet that is in place and of the right L, by its meaning.
+fn meant(line: Line, body: &[u8], meaning: Meaning) -> Packet
+    requires { ⌜ BodyFits meaning (length (now body)) ⌝ }
+    ensures { λ r. ⌜ r ≡ meantOf line (now (body .entry)) meaning ⌝ }
+{
+    match meaning {
+        Meaning::LoginAccepted => login(line, body),
+        Meaning::LoginRejected => Packet::Rejected(body[0]),
+        Meaning::Message => {
+            if numbering::none_left(line.next) {
+                return Packet::Refused(Fault::NumbersUsedUp);
+            }
+            Packet::Message
+        }
+        Meaning::Heartbeat => Packet::Heartbeat,
+        Meaning::EndOfSession => Packet::End,
+        Meaning::Skipped => Packet::Skipped,
+    }
+}
+
+// Refusals 2, 3 and 4 come in this order, and then what the packet's meaning asks.
+pub fn judge(line: Line, letter: u8, body: &[u8]) -> Packet
+    ensures { λ r. ⌜ r ≡ packetOf line letter (now (body .entry)) ⌝ }
+{
+    match table::row_of(letter) {
+        Entry::Missing => Packet::Refused(Fault::UnknownLetter),
+        Entry::Row(size, meaning, place) => {
+            if !table::in_place(place, line.logged) {
+                return Packet::Refused(Fault::WrongPlace);
+            }
+            if !table::of_size(size, body) {
+                return Packet::Refused(Fault::BadForm);
+            }
+            meant(line, body, meaning)
+        }
+    }
+}
+
+impl Line {
+    pub fn fresh() -> Line
+        ensures { λ r. ⌜ r ≡ freshLine ⌝ }
+    {
+        Line {
+            session: [32u8; 10],
+            known: false,
+            logged: false,
+            next: numbering::FIRST_NUMBER,
+        }
+    }
+
+    // Restored with a known session.
+    pub fn waiting(session: [u8; 10], next: u64) -> Line
+        ensures { λ r. ⌜ r ≡ waiting session next ⌝ }
+    {
+        Line {
+            session,
+            known: true,
+            logged: false,
+            next,
+        }
+    }
+
+    // After the login with that body.
+    pub fn logged_in(self, body: &[u8]) -> Line
+        requires { ⌜ 10 ≤ length (now body) ⌝ }
+        ensures { λ r. ⌜ r ≡ loggedIn self (part (now (body .entry)) 0 10) ⌝ }
+    {
+        let mut session = [0u8; 10];
+        field::copy(body, 0, 10, &mut session, 0);
+        Line {
+            session,
+            known: true,
+            logged: true,
+            next: self.next,
+        }
+    }
+
+    // After an accepted message.
+    pub fn counted(self) -> Line
+        requires { ⌜ self .next < highestNumber ⌝ }
+        ensures { λ r. ⌜ r ≡ counted self ⌝ }
+    {
+        let session = self.session;
+        Line {
+            session,
+            known: self.known,
+            logged: self.logged,
+            next: numbering::number_after(self.next),
+        }
+    }
+}
