@@ -1,7 +1,7 @@
 -- The ways through the code: what it finds, test by test, is what the definitions say.
 -- Assumes nothing.
 use mathlib.Core.Path.{_≡_, refl, sym, ap, _∙_}
-use mathlib.Core.Bool.{Bool, true, false, cond, _&&_}
+use mathlib.Core.Bool.{Bool, true, false, cond, _&&_, _||_, and-true, and-assoc}
 use mathlib.Core.List.{List, [], _∷_}
 use Prim.Native.Nat.{ℕ, _+_, _≤_, _<_}
 use native.Mathlib.Omega.{arith}
@@ -9,14 +9,14 @@ use borrow.Author.Tests.{eq-eqb, ne-eqb, le-leb, lt-leb}
 use lib.Dec.{eqb}
 use lib.ListN.{length, getD, replicate}
 use Rattle.field.specs.Bytes.{part, overlay}
-use Rattle.field.specs.Limits.{timeInRange}
+use Rattle.field.specs.Limits.{timeInRange, priceInRange}
 use Rattle.field.specs.Text.{isText}
 use Rattle.field.specs.Decimal.{numberBeforeSpaces}
 use Rattle.field.specs.declared.decimal.Number.{Number}
 use Rattle.field.specs.declared.decimal.Number.the-variants as number
 use Rattle.field.proofs.Parts.{part-length, part-whole, overlay-whole}
-use Rattle.message.specs.Layout.{Value, values, keepsAll}
-use Rattle.message.specs.Letters.{Letter, letters, letterIn, letterFor, fieldsOf, noTexts, stampRows, stampOf, instrumentRows, entryRows, instrumentOf, instrumentFields, textsOf, directoryRows, directoryOf, directoryFields, directoryLetter, endOfReplayRows, endOfReplayOf}
+use Rattle.message.specs.Layout.{Value, Row, values, keepsAll}
+use Rattle.message.specs.Letters.{Letter, listed, conditions, letters, letterIn, letterFor, fieldsOf, noTexts, stampRows, stampOf, instrumentRows, entryRows, instrumentOf, instrumentFields, textsOf, directoryRows, directoryOf, directoryFields, directoryLetter, endOfReplayRows, endOfReplayOf}
 use Rattle.message.specs.Message.{Sized, accepted, refused, readFields, readAs, readOf, bytesOf, keeps, outcome, writeOf}
 use Rattle.message.specs.declared.Message.{Message}
 use Rattle.message.specs.declared.Message.the-variants as message
@@ -59,20 +59,20 @@ module _ (l : Letter) (bs : List ℕ) where
   unfolding readAs
   as-fields s = rw (ne-eqb (l .size) 0 (s .isListed), eq-eqb (length bs) (l .size) (s .isLong))
 
--- a record with no texts, of any kind: it makes the message `says`, from the fields that are its own
-module _ {A : Type 0} (l : Letter) (vs : List Value) (says : A → Message) (fields : A → List Value) (a : A)
-    (made : l .makes vs ≡ says a) (bare : l .texts vs ≡ noTexts) (own : fields a ≡ vs) where
-  module _ {m : A} {ok : Bool} (is : m ≡ a) (p : ok ≡ keepsAll (l .rows) (fields m)) where
-    kept-fields : ok ≡ keepsAll (l .rows) vs
-    kept-fields = p ∙ ap (λ (x : A). keepsAll (l .rows) (fields x)) is ∙ ap (keepsAll (l .rows)) own
+-- a record with no texts, of any kind: its letter makes the message that `says` makes of it
+module _ {A : Type 0} (l : Letter) (vs : List Value) (says : A → Message) (a : A) (made : l .makes vs ≡ says a) (bare : l .texts vs ≡ noTexts) where
+  pub judged-yes : {m : A} {t : Texts} {ok : Bool} → ok ≡ keepsAll (l .rows) vs → ok ≡ true → m ≡ a → t ≡ noTexts → accepted (says m) t ≡ readFields l vs
+  unfolding readFields
+  judged-yes p y is q = rw (← p, y, made, bare, is, q)
 
-    pub judged-yes : {t : Texts} → ok ≡ true → t ≡ noTexts → accepted (says m) t ≡ readFields l vs
-    unfolding readFields
-    judged-yes y q = rw (← kept-fields, y, made, bare, is, q)
+pub judged-no : (l : Letter) (vs : List Value) {ok : Bool} {r : Reading} → ok ≡ keepsAll (l .rows) vs → ok ≡ false → r ≡ refused BadField → r ≡ readFields l vs
+unfolding readFields
+judged-no l vs p n q = rw (← p, n) q
 
-    pub judged-no : {r : Reading} → ok ≡ false → r ≡ refused BadField → r ≡ readFields l vs
-    unfolding readFields
-    judged-no n q = rw (← kept-fields, n) q
+-- a test of the record is a test of the fields that it was made of
+pub by-record : {A : Type 0} (rows : List Row) (vs : List Value) (fields : A → List Value) (a : A) {m : A} {ok : Bool} → fields a ≡ vs → m ≡ a
+    → ok ≡ keepsAll rows (fields m) → ok ≡ keepsAll rows vs
+by-record rows vs fields a own is p = p ∙ ap (λ x. keepsAll rows (fields x)) is ∙ ap (keepsAll rows) own
 
 module _ (bs : List ℕ) (size : ℕ) (some : length bs ≡ 0 → ⊥) (is : size ≡ letterIn letters (getD bs 0 0) .size) where
   pub read-unknown : {r : Reading} → size ≡ 0 → r ≡ refused UnknownLetter → r ≡ readOf bs
@@ -167,6 +167,16 @@ texts-copied bs h p q r i =
 
 -- ---- the field rules
 
+any-of : (a b c : Bool) → a || (b || c) ≡ cond a true (cond b true (cond c true false))
+any-of true b c = refl
+any-of false true c = refl
+any-of false false true = refl
+any-of false false false = refl
+
+pub is-condition : (c : ℕ) → eqb 32 c || (eqb 88 c || eqb 89 c) ≡ listed conditions c
+unfolding listed
+is-condition c = any-of (eqb 32 c) (eqb 88 c) (eqb 89 c)
+
 pub text-whole : (xs : List ℕ) (n : ℕ) {r : Bool} → length xs ≡ n → r ≡ isText (part xs 0 n) → r ≡ isText xs
 text-whole xs n e p = p ∙ ap isText (part-whole xs n e)
 
@@ -174,3 +184,19 @@ pub directory-keeps : (m : Directory) (t : Texts) {a b : Bool} → a ≡ timeInR
     → a && b ≡ keepsAll directoryRows (directoryFields m t)
 unfolding keepsAll
 directory-keeps m t p q = rw (p, q)
+
+-- the rules of a quote: its time, its condition, and the prices of four bytes
+module _ (x y : ℕ) {t d : ℕ} {a : Bool} (is-time : t ≡ x) (is-condition : d ≡ y) (p : a ≡ timeInRange t && listed conditions d) where
+  head : a ≡ timeInRange x && listed conditions y
+  head = p ∙ ap (λ v. timeInRange v && listed conditions d) is-time ∙ ap (λ v. timeInRange x && listed conditions v) is-condition
+
+  pub head-kept : (k : Bool) → k ≡ timeInRange x && (listed conditions y && true) → a ≡ k
+  head-kept k e = head ∙ sym (simp and-true at e)
+
+  pub side-kept : (k : Bool) (z : ℕ) {u : ℕ} {b : Bool} → k ≡ timeInRange x && (listed conditions y && (priceInRange z && true)) → u ≡ z → b ≡ priceInRange u → a && b ≡ k
+  side-kept k z e is q = rw (head, q, is) (and-assoc (timeInRange x) (listed conditions y) (priceInRange z)) ∙ sym (simp and-true at e)
+
+  pub quote-kept : (k : Bool) (z w : ℕ) {u v : ℕ} {b : Bool} → k ≡ timeInRange x && (listed conditions y && (priceInRange z && (priceInRange w && true)))
+      → u ≡ z → v ≡ w → b ≡ priceInRange u && priceInRange v → a && b ≡ k
+  quote-kept k z w e is as-is q =
+      rw (head, q, is, as-is) (and-assoc (timeInRange x) (listed conditions y) (priceInRange z && priceInRange w)) ∙ sym (simp and-true at e)

@@ -1,4 +1,5 @@
 // Bytes of a letter's length judged: the record that they make if every field is in its list or range, with its texts beside it.
+// A quote's rules are tested before its numbers are taken, so that the compiler reads each number with one load.
 use crate::Answer;
 use crate::Message;
 use crate::Reading;
@@ -7,6 +8,7 @@ use crate::Side;
 use crate::entry;
 use crate::rules;
 use crate::take;
+use field::limits;
 ghost use mathlib.Core.Path.{_≡_};
 ghost use Prim.Native.Nat.{_≤_};
 ghost use lib.ListN.{length};
@@ -61,10 +63,9 @@ fn short_quote(bytes: &[u8]) -> Reading
     requires { ⌜ 36 ≤ length (now bytes) ⌝ }
     ensures { λ r. ⌜ r ≡ readFields shortQuoteLetter (values shortQuoteRows (now (bytes .entry))) ⌝ }
 {
-    let m = take::short_quote(bytes);
-    if rules::keep_short_quote(m) {
+    if rules::keep_head(take::time(bytes), take::condition(bytes)) {
         return Reading {
-            answer: Answer::Is(Message::ShortQuote(m)),
+            answer: Answer::Is(Message::ShortQuote(take::short_quote(bytes))),
             texts: crate::no_texts(),
         };
     }
@@ -75,10 +76,11 @@ fn long_quote(bytes: &[u8]) -> Reading
     requires { ⌜ 56 ≤ length (now bytes) ⌝ }
     ensures { λ r. ⌜ r ≡ readFields longQuoteLetter (values longQuoteRows (now (bytes .entry))) ⌝ }
 {
-    let m = take::long_quote(bytes);
-    if rules::keep_long_quote(m) {
+    if rules::keep_head(take::time(bytes), take::condition(bytes))
+        & rules::keep_prices(take::long_price(bytes, 16), take::long_price(bytes, 36))
+    {
         return Reading {
-            answer: Answer::Is(Message::LongQuote(m)),
+            answer: Answer::Is(Message::LongQuote(take::long_quote(bytes))),
             texts: crate::no_texts(),
         };
     }
@@ -89,10 +91,9 @@ fn short_side(bytes: &[u8], side: Side) -> Reading
     requires { ⌜ 26 ≤ length (now bytes) ⌝ }
     ensures { λ r. ⌜ r ≡ readFields (shortSideLetter side) (values shortSideRows (now (bytes .entry))) ⌝ }
 {
-    let m = take::short_side(bytes, side);
-    if rules::keep_short_side(m) {
+    if rules::keep_head(take::time(bytes), take::condition(bytes)) {
         return Reading {
-            answer: Answer::Is(Message::ShortSide(m)),
+            answer: Answer::Is(Message::ShortSide(take::short_side(bytes, side))),
             texts: crate::no_texts(),
         };
     }
@@ -103,10 +104,11 @@ fn long_side(bytes: &[u8], side: Side) -> Reading
     requires { ⌜ 36 ≤ length (now bytes) ⌝ }
     ensures { λ r. ⌜ r ≡ readFields (longSideLetter side) (values longSideRows (now (bytes .entry))) ⌝ }
 {
-    let m = take::long_side(bytes, side);
-    if rules::keep_long_side(m) {
+    if rules::keep_head(take::time(bytes), take::condition(bytes))
+        & limits::price_in_range(take::long_price(bytes, 16))
+    {
         return Reading {
-            answer: Answer::Is(Message::LongSide(m)),
+            answer: Answer::Is(Message::LongSide(take::long_side(bytes, side))),
             texts: crate::no_texts(),
         };
     }

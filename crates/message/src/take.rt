@@ -16,8 +16,31 @@ use field::decimal;
 ghost use mathlib.Core.Path.{_≡_};
 ghost use Prim.Native.Nat.{_+_, _≤_};
 ghost use lib.ListN.{length};
+ghost use Rattle.field.specs.Bytes.{part, be};
 ghost use Rattle.message.specs.Layout.{values};
 ghost use Rattle.message.specs.Letters.{stampRows, stampOf, systemEventRows, systemEventOf, directoryRows, directoryOf, tradingActionRows, tradingActionOf, shortNumbersRows, shortNumbersOf, longNumbersRows, longNumbersOf, shortQuoteRows, shortQuoteOf, longQuoteRows, longQuoteOf, shortSideRows, shortSideOf, longSideRows, longSideOf, endOfReplayRows, endOfReplayOf};
+
+pub fn time(bytes: &[u8]) -> u64
+    requires { ⌜ 11 ≤ length (now bytes) ⌝ }
+    ensures { λ r. ⌜ r ≡ be (part (now (bytes .entry)) 3 8) ⌝ }
+{
+    field::read8(bytes, 3)
+}
+
+pub fn condition(bytes: &[u8]) -> u8
+    requires { ⌜ 16 ≤ length (now bytes) ⌝ }
+    ensures { λ r. ⌜ r ≡ be (part (now (bytes .entry)) 15 1) ⌝ }
+{
+    field::read1(bytes, 15)
+}
+
+// The price of a side that begins at `at`, of four bytes each.
+pub fn long_price(bytes: &[u8], at: usize) -> u32
+    requires { ⌜ at + 20 ≤ length (now bytes) ⌝ }
+    ensures { λ r. ⌜ r ≡ be (part (now (bytes .entry)) (at + 4) 4) ⌝ }
+{
+    field::read4(bytes, at + 4)
+}
 
 fn stamp(bytes: &[u8]) -> Stamp
     requires { ⌜ 11 ≤ length (now bytes) ⌝ }
@@ -25,7 +48,7 @@ fn stamp(bytes: &[u8]) -> Stamp
 {
     Stamp {
         tracking: field::read2(bytes, 1),
-        time: field::read8(bytes, 3),
+        time: time(bytes),
     }
 }
 
@@ -48,7 +71,7 @@ fn long_numbers(bytes: &[u8], at: usize) -> LongNumbers
 {
     LongNumbers {
         market: field::read4(bytes, at),
-        price: field::read4(bytes, at + 4),
+        price: long_price(bytes, at),
         size: field::read4(bytes, at + 8),
         customer: field::read4(bytes, at + 12),
         professional: field::read4(bytes, at + 16),
@@ -93,7 +116,7 @@ pub fn short_quote(bytes: &[u8]) -> ShortQuote
     ShortQuote {
         stamp: stamp(bytes),
         id: field::read4(bytes, 11),
-        condition: field::read1(bytes, 15),
+        condition: condition(bytes),
         bid: short_numbers(bytes, 16),
         ask: short_numbers(bytes, 26),
     }
@@ -106,7 +129,7 @@ pub fn long_quote(bytes: &[u8]) -> LongQuote
     LongQuote {
         stamp: stamp(bytes),
         id: field::read4(bytes, 11),
-        condition: field::read1(bytes, 15),
+        condition: condition(bytes),
         bid: long_numbers(bytes, 16),
         ask: long_numbers(bytes, 36),
     }
@@ -119,7 +142,7 @@ pub fn short_side(bytes: &[u8], side: Side) -> ShortSide
     ShortSide {
         stamp: stamp(bytes),
         id: field::read4(bytes, 11),
-        condition: field::read1(bytes, 15),
+        condition: condition(bytes),
         side,
         numbers: short_numbers(bytes, 16),
     }
@@ -132,7 +155,7 @@ pub fn long_side(bytes: &[u8], side: Side) -> LongSide
     LongSide {
         stamp: stamp(bytes),
         id: field::read4(bytes, 11),
-        condition: field::read1(bytes, 15),
+        condition: condition(bytes),
         side,
         numbers: long_numbers(bytes, 16),
     }

@@ -1,14 +1,15 @@
 -- `message::rules::keep_short_quote` meets its contract.
 -- Assumes nothing.
-use mathlib.Core.Bool.{and-true}
+use mathlib.Core.Path.{refl}
 use borrow.Author.Needs.{needs}
 use Rattle.message.specs.Layout.{keepsAll}
+use Rattle.message.proofs.Ways.{head-kept}
 use Rattle.message.proofs.rules.keep_short_quote.Statement.{statement}
 use Rattle.message.proofs.rules.keep_short_quote.Tie as tie
 
 returns : tie.Need-returns
 unfolding keepsAll
-returns c = simp and-true (cc)
+returns c = let m = c .before .args .m in head-kept (m .stamp .time) (m .condition) refl refl (c .keep-head .ensures) _ refl
 
 pub keep-short-quote-spec : {M : Type 1} → statement M
-keep-short-quote-spec = tie.close (tie.spec (λ c κs. search needs) (λ c κs. search needs) returns)
+keep-short-quote-spec = tie.close (tie.spec (λ c κs. search needs) returns)
