@@ -4,3 +4,4 @@ pub mod Rounds
 pub mod Verdicts
 pub mod Ways
 pub mod Puts
+mod Examples

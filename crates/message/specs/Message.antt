@@ -40,15 +40,17 @@ accepted m t = record { answer = Is m; texts = t }
 abbrev pub refused : Refusal → Reading
 refused r = record { answer = Refused r; texts = noTexts }
 
--- 10 for an unknown letter; 11 for a wrong length; 12 for a field outside its list or range; else the message that the fields make
+-- 12 for a field outside its list or range, else the message that the fields make
 unfoldable pub readFields : Letter → List Value → Reading
 readFields l vs = cond (keepsAll (l .rows) vs) (accepted (l .makes vs) (l .texts vs)) (refused BadField)
 
+-- before that 10 for an unknown letter, and 11 for a wrong length
 unfoldable pub readAs : Letter → List ℕ → Reading
 readAs l bs =
     cond (eqb (l .size) 0) (refused UnknownLetter)
     (cond (eqb (length bs) (l .size)) (readFields l (values (l .rows) bs)) (refused WrongLength))
 
+-- 10 for an empty message too
 unfoldable pub readOf : List ℕ → Reading
 readOf [] = refused UnknownLetter
 readOf (c ∷ bs) = readAs (letterIn letters c) (c ∷ bs)

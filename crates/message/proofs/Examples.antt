@@ -1,0 +1,40 @@
+-- The definitions compute on messages.
+-- Assumes nothing.
+use mathlib.Core.Path.{_≡_, refl}
+use mathlib.Core.List.{List, [], _∷_}
+use Prim.Native.Nat.{ℕ}
+use Rattle.field.specs.Bytes.{part, value, digits}
+use Rattle.message.specs.Layout.{values, keepsAll, bytesFor}
+use Rattle.message.specs.Letters.{listed, letters, letterIn, noTexts}
+use Rattle.message.specs.Message.{accepted, refused, readFields, readAs, readOf, bytesOf}
+use Rattle.message.specs.declared.Message.{Message}
+use Rattle.message.specs.declared.Message.the-variants as message
+use Rattle.message.specs.declared.Refusal.the-variants.{UnknownLetter, WrongLength, BadField}
+
+-- start of messages, tracking number 7, at 9:30:00.123456789
+start : Message
+start = message.SystemEvent (record { stamp = record { tracking = 7; time = 34_200_123_456_789 }; code = 79 })
+
+startBytes : List ℕ
+startBytes = 83 ∷ 0 ∷ 7 ∷ 0 ∷ 0 ∷ 0x1F ∷ 0x1A ∷ 0xD6 ∷ 0x35 ∷ 0xBD ∷ 0x15 ∷ 79 ∷ []
+
+read-start : readOf startBytes ≡ accepted start noTexts
+unfolding start startBytes readOf readAs readFields letters letterIn values keepsAll listed part value
+read-start = refl
+
+write-start : bytesOf start noTexts ≡ startBytes
+unfolding start startBytes bytesOf bytesFor digits
+write-start = refl
+
+-- no event has the code A; the letter s is not listed; a byte is missing
+bad-code : readOf (83 ∷ 0 ∷ 7 ∷ 0 ∷ 0 ∷ 0 ∷ 0 ∷ 0 ∷ 0 ∷ 0 ∷ 0 ∷ 65 ∷ []) ≡ refused BadField
+unfolding readOf readAs readFields letters letterIn values keepsAll listed part value
+bad-code = refl
+
+unknown-letter : readOf (115 ∷ []) ≡ refused UnknownLetter
+unfolding readOf readAs letters letterIn
+unknown-letter = refl
+
+one-short : readOf (83 ∷ 0 ∷ 7 ∷ 0 ∷ 0 ∷ 0 ∷ 0 ∷ 0 ∷ 0 ∷ 0 ∷ 0 ∷ []) ≡ refused WrongLength
+unfolding readOf readAs letters letterIn
+one-short = refl
