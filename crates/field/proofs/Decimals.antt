@@ -19,7 +19,8 @@ use Rattle.field.specs.Text.{within, every, leading, isSpace, isDigit}
 use Rattle.field.specs.Decimal.{decimal, beginsWithNonZero, numberOf, numberAfterSpaces, numberBeforeSpaces, digitChars, oneOrMore, digitCountIn, digitCount, chars, charsThenSpaces, spacesThenChars}
 use Rattle.field.proofs.Parts.{part-length, part-at, part-none, part-cons, part-more, part-split, part-take, part-drop, overlay-none, overlay-before, overlay-next}
 use Rattle.field.proofs.Numbers.{pos, value-append, value-below, value-digits, digits-value, digits-length}
-use Rattle.field.proofs.Runs.{both-left, both-right, every-at, every-append, every-leading, every-replicate, leading-le, leading-append, leading-replicate, spaces-are, within-yes, within-low, within-high}
+use Rattle.field.proofs.Bools.{both-left, both-right}
+use Rattle.field.proofs.Runs.{every-at, every-append, every-leading, every-replicate, leading-le, leading-append, leading-replicate, spaces-are, within-yes, within-low, within-high}
 
 -- ---- digits in characters
 

@@ -1,4 +1,5 @@
 pub mod Answers
+pub mod Bools
 pub mod Parts
 pub mod Writes
 pub mod Numbers

@@ -12,6 +12,7 @@ use lib.Dec.{leb, eqb, eqb·zero-suc, eqb·suc-suc}
 use lib.ListN.{length, take, drop, getD, replicate}
 use Rattle.field.specs.Bytes.{part}
 use Rattle.field.specs.Text.{within, every, leading, isSpace, isPrintable, isText, beginsWithNonSpace, onlySpacesAfterSpace}
+use Rattle.field.proofs.Bools.{both-left, both-right}
 use Rattle.field.proofs.Parts.{part-length, part-drop, rest-cons, rest-none}
 
 -- ---- a range
@@ -42,14 +43,6 @@ unfolding leading
 leading-end p xs at n k g = rw (rest-none xs at n k g)
 
 -- ---- a run and the test of every character
-
-pub both-left : (a b : Bool) → a && b ≡ true → a ≡ true
-both-left true b e = refl
-both-left false b e = e
-
-pub both-right : (a b : Bool) → a && b ≡ true → b ≡ true
-both-right true b e = e
-both-right false b e = let z : false ≡ true = e in cc
 
 pub every-append : (p : ℕ → Bool) (xs ys : List ℕ) → every p (xs ++ ys) ≡ every p xs && every p ys
 unfolding every

@@ -8,15 +8,8 @@ use borrow.Author.Tests.{eq-eqb, eqb-true}
 use lib.Dec.{eqb}
 use lib.ListN.{length, getD}
 use Rattle.field.specs.Bytes.{part, same}
+use Rattle.field.proofs.Bools.{both-left, both-right}
 use Rattle.field.proofs.Parts.{part-at, part-more}
-
-and-left : (a b : Bool) → a && b ≡ true → a ≡ true
-and-left true b e = refl
-and-left false b e = e
-
-and-right : (a b : Bool) → a && b ≡ true → b ≡ true
-and-right true b e = e
-and-right false b e = let z : false ≡ true = e in cc
 
 -- the test says true of lists that are the same, and of no others
 pub test-same : (xs ys : List ℕ) → same xs ys ≡ true → xs ≡ ys
@@ -25,8 +18,8 @@ test-same [] [] e = refl
 test-same [] (y ∷ ys) e = cc
 test-same (x ∷ xs) [] e = cc
 test-same (x ∷ xs) (y ∷ ys) e =
-    let p : x ≡ y = eqb-true x y (and-left (eqb x y) (same xs ys) e) in
-    let q : xs ≡ ys = test-same xs ys (and-right (eqb x y) (same xs ys) e) in
+    let p : x ≡ y = eqb-true x y (both-left (eqb x y) (same xs ys) e) in
+    let q : xs ≡ ys = test-same xs ys (both-right (eqb x y) (same xs ys) e) in
     cc
 
 pub test-self : (xs : List ℕ) → same xs xs ≡ true

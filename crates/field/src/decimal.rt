@@ -14,7 +14,7 @@ pub enum Number {
 }
 
 // The number that the n bytes write with digits alone, from `at` on.
-pub fn unpadded_number(s: &[u8], at: usize, n: usize) -> Number
+fn unpadded_number(s: &[u8], at: usize, n: usize) -> Number
     requires { ⌜ at + n ≤ length (now s) ⌝ }
     ensures { λ r. ⌜ r ≡ numberOf (part (now (s .entry)) at n) ⌝ }
 {

@@ -16,7 +16,7 @@ use Rattle.field.specs.declared.decimal.Number.{Number}
 use Rattle.field.specs.declared.decimal.Number.the-variants.{Is, Bad}
 use Rattle.field.proofs.Parts.{part-length, part-part}
 use Rattle.field.proofs.Numbers.{digits-length, digits-value, value-digits, part-bytes}
-use Rattle.field.proofs.Runs.{both-left, both-right}
+use Rattle.field.proofs.Bools.{both-left, both-right}
 use Rattle.field.proofs.Decimals.{before-of, of-before, before-length}
 use Rattle.message.specs.Layout.{Value, num, raw, Rule, binary, decimal, text, bytes, Row, orZero, valueIn, bytesIn, holds, values, keepsAll, bytesFor, tiled, from, FitsIn, Fit}
 

@@ -10,7 +10,7 @@ use borrow.Author.Tests.{eqb-true, eq-eqb, ne-eqb}
 use lib.Dec.{eqb}
 use lib.ListN.{length, drop, getD, length-drop, drop-of-length-le}
 use lib.Seq.{drop-cons}
-use Rattle.field.proofs.Runs.{both-left, both-right}
+use Rattle.field.proofs.Bools.{both-left, both-right}
 use Rattle.message.specs.Layout.{Value, values, tiled}
 use Rattle.message.specs.Letters.{Letter, letters, letterIn, letterFor, unlisted, lengthTable, lengthIn, listed, noTexts, fieldsOf, shortSideCode, shortSideLetter, longSideCode, longSideLetter}
 use Rattle.message.specs.Message.{Sized, readFields, textsWith}
