@@ -179,7 +179,7 @@ pub fn no_texts() -> Texts
     }
 }
 
-pub fn refuse(r: Refusal) -> Reading
+fn refuse(r: Refusal) -> Reading
     ensures { λ x. ⌜ x ≡ refused r ⌝ }
 {
     Reading {
