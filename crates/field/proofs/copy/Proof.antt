@@ -20,7 +20,7 @@ loop-holds : tie.Need-loop-holds Inv-loop μ-loop
 loop-holds c = (search needs, rw (part-none, overlay-none), refl)
 
 loop-again : tie.Need-loop-again Inv-loop μ-loop
-loop-again c = (search needs, cc (copy-turn (c .before .before .before .args .dst .now) (c .before .before .before .args .at) (c .before .before .before .args .src .now) (c .before .before .before .args .from) (c .before .before .loop .copied) (search needs) (search needs)), rw length-set (search needs))
+loop-again c = (search needs, rw (c .before .before .loop .inv .1) (copy-turn (c .before .before .before .args .dst .now) (c .before .before .before .args .at) (c .before .before .before .args .src .now) (c .before .before .before .args .from) (c .before .before .loop .copied) (search needs) (search needs)), rw length-set (search needs))
 
 returns : tie.Need-returns Inv-loop μ-loop
 returns c = let e : c .before .loop .copied ≡ c .before .before .args .n = omega arith in cc

@@ -20,7 +20,7 @@ loop-holds : tie.Need-loop-holds Inv-loop μ-loop
 loop-holds c = (search needs, rest-none-yet (c .args .n) (c .args .v), write-none-yet (c .args .out .now) (c .args .at) (c .args .n) (c .args .v), refl)
 
 loop-again : tie.Need-loop-again Inv-loop μ-loop
-loop-again c = let s = c .before .before .args in let i = c .before .loop .i in (search needs, cc (rest-turn (s .out .now) (s .at) (s .n) (s .v) i (search needs) (search needs)), cc (write-turn (s .out .now) (s .at) (s .n) (s .v) i (search needs) (search needs) (search needs)), rw length-set (search needs))
+loop-again c = let s = c .before .before .args in let i = c .before .loop .i in (search needs, cc (rest-turn (s .out .now) (s .at) (s .n) (s .v) i (search needs) (search needs)), rw (c .before .loop .inv .2, c .before .loop .inv .1) (write-turn (s .out .now) (s .at) (s .n) (s .v) i (search needs) (search needs) (search needs)), rw length-set (search needs))
 
 returns : tie.Need-returns Inv-loop μ-loop
 returns c = let s = c .before .before .args in cc (write-all (s .out .now) (s .at) (s .n) (s .v) (c .before .loop .i) (search needs))
