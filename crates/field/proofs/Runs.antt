@@ -180,8 +180,8 @@ text-run (c ∷ cs) some = by (isSpace c) refl
 -- ---- what the code finds at a part
 
 module _ (xs : List ℕ) (at n k : ℕ) (fits : at + n ≤ length xs) where
-  pub spaces-of-part : k ≡ leading isSpace (part xs at n) → eqb k n ≡ every isSpace (part xs at n)
-  spaces-of-part e = rw e (rw (part-length xs at n fits) at (leading-every isSpace (part xs at n)))
+  pub only-part : (p : ℕ → Bool) → k ≡ leading p (part xs at n) → eqb k n ≡ every p (part xs at n)
+  only-part p e = rw e (rw (part-length xs at n fits) at (leading-every p (part xs at n)))
 
   pub no-text-part : k ≡ leading isGraphic (part xs at n) → k ≡ 0 → false ≡ isText (part xs at n)
   no-text-part e z = sym (text-none (part xs at n) (sym e ∙ z))

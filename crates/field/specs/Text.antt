@@ -11,6 +11,9 @@ within low high c = leb low c && leb c high
 abbrev pub isSpace : ℕ → Bool
 isSpace = within 32 32
 
+abbrev pub isZero : ℕ → Bool
+isZero = within 0 0
+
 abbrev pub isPrintable : ℕ → Bool
 isPrintable = within 32 126
 

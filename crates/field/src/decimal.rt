@@ -57,7 +57,7 @@ pub fn number_before_spaces(s: &[u8], at: usize, n: usize) -> Number
     ensures { λ r. ⌜ r ≡ numberBeforeSpaces (part (now (s .entry)) at n) ⌝ }
 {
     let k = text::run(s, at, n, 48, 57);
-    if text::only_spaces(s, at + k, n - k) {
+    if text::only(s, at + k, n - k, b' ') {
         unpadded_number(s, at, k)
     } else {
         Number::Bad

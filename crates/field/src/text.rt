@@ -3,7 +3,7 @@ ghost use mathlib.Core.Path.{_≡_};
 ghost use Prim.Native.Nat.{_+_, _≤_};
 ghost use lib.ListN.{length};
 ghost use Rattle.field.specs.Bytes.{part};
-ghost use Rattle.field.specs.Text.{within, every, leading, isSpace, isText};
+ghost use Rattle.field.specs.Text.{within, every, leading, isText};
 
 // How many of the n bytes from `at` on, counted from the first, lie from low to high.
 pub fn run(s: &[u8], at: usize, n: usize, low: u8, high: u8) -> usize
@@ -24,11 +24,12 @@ pub fn run(s: &[u8], at: usize, n: usize, low: u8, high: u8) -> usize
     k
 }
 
-pub fn only_spaces(s: &[u8], at: usize, n: usize) -> bool
+// Are the n bytes from `at` on all this one?
+pub fn only(s: &[u8], at: usize, n: usize, byte: u8) -> bool
     requires { ⌜ at + n ≤ length (now s) ⌝ }
-    ensures { λ r. ⌜ r ≡ every isSpace (part (now (s .entry)) at n) ⌝ }
+    ensures { λ r. ⌜ r ≡ every (within byte byte) (part (now (s .entry)) at n) ⌝ }
 {
-    run(s, at, n, 32, 32) == n
+    run(s, at, n, byte, byte) == n
 }
 
 // Printable characters but for the space, one at least, and then spaces alone.
@@ -40,5 +41,5 @@ pub fn is_text(s: &[u8], at: usize, n: usize) -> bool
     if k == 0 {
         return false;
     }
-    only_spaces(s, at + k, n - k)
+    only(s, at + k, n - k, b' ')
 }

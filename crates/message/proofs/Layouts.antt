@@ -76,7 +76,7 @@ unfolding tiled
 tiled-end at end t = eqb-true at end t
 
 -- values that fit and keep their rules are read back from their bytes, whatever stands before them
-values-back : (rs : List Row) (vs : List Value) (pre : List ℕ) (at end : ℕ) → tiled at rs end ≡ true → Fit rs vs → keepsAll rs vs ≡ true → length pre ≡ at
+pub values-back : (rs : List Row) (vs : List Value) (pre : List ℕ) (at end : ℕ) → tiled at rs end ≡ true → Fit rs vs → keepsAll rs vs ≡ true → length pre ≡ at
     → values rs (pre ++ bytesFor rs vs) ≡ vs
 unfolding values bytesFor keepsAll part
 values-back [] [] pre at end t f h e = refl

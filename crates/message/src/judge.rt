@@ -6,6 +6,7 @@ use crate::Reading;
 use crate::Refusal;
 use crate::Side;
 use crate::entry;
+use crate::numbers;
 use crate::rules;
 use crate::take;
 use field::limits;
@@ -77,7 +78,10 @@ fn long_quote(bytes: &[u8]) -> Reading
     ensures { λ r. ⌜ r ≡ readFields longQuoteLetter (values longQuoteRows (now (bytes .entry))) ⌝ }
 {
     if rules::keep_head(take::time(bytes), take::condition(bytes))
-        & rules::keep_prices(take::long_price(bytes, 16), take::long_price(bytes, 36))
+        & rules::keep_prices(
+            numbers::long_price(bytes, 16),
+            numbers::long_price(bytes, 36),
+        )
     {
         return Reading {
             answer: Answer::Is(Message::LongQuote(take::long_quote(bytes))),
@@ -105,7 +109,7 @@ fn long_side(bytes: &[u8], side: Side) -> Reading
     ensures { λ r. ⌜ r ≡ readFields (longSideLetter side) (values longSideRows (now (bytes .entry))) ⌝ }
 {
     if rules::keep_head(take::time(bytes), take::condition(bytes))
-        & limits::price_in_range(take::long_price(bytes, 16))
+        & limits::price_in_range(numbers::long_price(bytes, 16))
     {
         return Reading {
             answer: Answer::Is(Message::LongSide(take::long_side(bytes, side))),

@@ -7,6 +7,7 @@ pub mod codes;
 pub mod entry;
 mod judge;
 pub mod lengths;
+pub mod numbers;
 mod put;
 mod rules;
 mod take;

@@ -1,11 +1,9 @@
 // Records put into bytes, from the start of the memory that is lent.
 use crate::Directory;
 use crate::EndOfReplay;
-use crate::LongNumbers;
 use crate::LongQuote;
 use crate::LongSide;
 use crate::Message;
-use crate::ShortNumbers;
 use crate::ShortQuote;
 use crate::ShortSide;
 use crate::Side;
@@ -14,14 +12,15 @@ use crate::SystemEvent;
 use crate::Texts;
 use crate::TradingAction;
 use crate::entry;
+use crate::numbers;
 use field::decimal;
 ghost use mathlib.Core.Path.{_≡_};
 ghost use mathlib.Core.List.{_∷_};
-ghost use Prim.Native.Nat.{_+_, _≤_};
+ghost use Prim.Native.Nat.{_≤_};
 ghost use lib.ListN.{length};
 ghost use Rattle.field.specs.Bytes.{overlay};
 ghost use Rattle.message.specs.Layout.{bytesFor};
-ghost use Rattle.message.specs.Letters.{letterFor, stampRows, stampFields, systemEventRows, systemEventFields, directoryRows, directoryFields, quoteRows, quoteFields, tradingActionRows, tradingActionFields, shortNumbersRows, shortNumbersFields, longNumbersRows, longNumbersFields, shortQuoteRows, shortQuoteFields, longQuoteRows, longQuoteFields, shortSideCode, shortSideRows, shortSideFields, longSideCode, longSideRows, longSideFields, endOfReplayRows, endOfReplayFields};
+ghost use Rattle.message.specs.Letters.{letterFor, stampRows, stampFields, systemEventRows, systemEventFields, directoryRows, directoryFields, quoteRows, quoteFields, tradingActionRows, tradingActionFields, shortQuoteRows, shortQuoteFields, longQuoteRows, longQuoteFields, shortSideCode, shortSideRows, shortSideFields, longSideCode, longSideRows, longSideFields, endOfReplayRows, endOfReplayFields};
 ghost use Rattle.message.specs.Message.{bytesOf};
 
 // The letter and the stamp: eleven bytes.
@@ -42,28 +41,6 @@ fn head(out: &mut [u8], letter: u8, s: Stamp, id: u32, mark: u8)
     stamp(out, letter, s);
     field::write4(out, 11, id);
     field::write1(out, 15, mark);
-}
-
-fn short_numbers(out: &mut [u8], at: usize, n: ShortNumbers)
-    requires { ⌜ at + 10 ≤ length (now out) ⌝ }
-    ensures { λ r. ⌜ now (out .exit) ≡ overlay (now (out .entry)) at (bytesFor (shortNumbersRows at) (shortNumbersFields n)) ⌝ }
-{
-    field::write2(out, at, n.market);
-    field::write2(out, at + 2, n.price);
-    field::write2(out, at + 4, n.size);
-    field::write2(out, at + 6, n.customer);
-    field::write2(out, at + 8, n.professional);
-}
-
-fn long_numbers(out: &mut [u8], at: usize, n: LongNumbers)
-    requires { ⌜ at + 20 ≤ length (now out) ⌝ }
-    ensures { λ r. ⌜ now (out .exit) ≡ overlay (now (out .entry)) at (bytesFor (longNumbersRows at) (longNumbersFields n)) ⌝ }
-{
-    field::write4(out, at, n.market);
-    field::write4(out, at + 4, n.price);
-    field::write4(out, at + 8, n.size);
-    field::write4(out, at + 12, n.customer);
-    field::write4(out, at + 16, n.professional);
 }
 
 fn system_event(out: &mut [u8], m: SystemEvent)
@@ -101,8 +78,8 @@ fn short_quote(out: &mut [u8], m: ShortQuote)
     let bid = m.bid;
     let ask = m.ask;
     head(out, b'q', s, m.id, m.condition);
-    short_numbers(out, 16, bid);
-    short_numbers(out, 26, ask);
+    numbers::put_short(out, 16, bid);
+    numbers::put_short(out, 26, ask);
 }
 
 fn long_quote(out: &mut [u8], m: LongQuote)
@@ -113,8 +90,8 @@ fn long_quote(out: &mut [u8], m: LongQuote)
     let bid = m.bid;
     let ask = m.ask;
     head(out, b'Q', s, m.id, m.condition);
-    long_numbers(out, 16, bid);
-    long_numbers(out, 36, ask);
+    numbers::put_long(out, 16, bid);
+    numbers::put_long(out, 36, ask);
 }
 
 fn short_side_code(side: Side) -> u8
@@ -135,7 +112,7 @@ fn short_side(out: &mut [u8], m: ShortSide)
     let numbers = m.numbers;
     let code = short_side_code(side);
     head(out, code, s, m.id, m.condition);
-    short_numbers(out, 16, numbers);
+    numbers::put_short(out, 16, numbers);
 }
 
 fn long_side_code(side: Side) -> u8
@@ -156,7 +133,7 @@ fn long_side(out: &mut [u8], m: LongSide)
     let numbers = m.numbers;
     let code = long_side_code(side);
     head(out, code, s, m.id, m.condition);
-    long_numbers(out, 16, numbers);
+    numbers::put_long(out, 16, numbers);
 }
 
 fn end_of_replay(out: &mut [u8], m: EndOfReplay)

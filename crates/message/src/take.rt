@@ -1,10 +1,8 @@
 // Records taken from bytes of their letter's length.
 use crate::Directory;
 use crate::EndOfReplay;
-use crate::LongNumbers;
 use crate::LongQuote;
 use crate::LongSide;
-use crate::ShortNumbers;
 use crate::ShortQuote;
 use crate::ShortSide;
 use crate::Side;
@@ -12,13 +10,14 @@ use crate::Stamp;
 use crate::SystemEvent;
 use crate::TradingAction;
 use crate::entry;
+use crate::numbers;
 use field::decimal;
 ghost use mathlib.Core.Path.{_≡_};
 ghost use Prim.Native.Nat.{_+_, _≤_};
 ghost use lib.ListN.{length};
 ghost use Rattle.field.specs.Bytes.{part, be};
 ghost use Rattle.message.specs.Layout.{values};
-ghost use Rattle.message.specs.Letters.{stampRows, stampOf, systemEventRows, systemEventOf, directoryRows, directoryOf, tradingActionRows, tradingActionOf, shortNumbersRows, shortNumbersOf, longNumbersRows, longNumbersOf, shortQuoteRows, shortQuoteOf, longQuoteRows, longQuoteOf, shortSideRows, shortSideOf, longSideRows, longSideOf, endOfReplayRows, endOfReplayOf};
+ghost use Rattle.message.specs.Letters.{stampRows, stampOf, systemEventRows, systemEventOf, directoryRows, directoryOf, tradingActionRows, tradingActionOf, shortQuoteRows, shortQuoteOf, longQuoteRows, longQuoteOf, shortSideRows, shortSideOf, longSideRows, longSideOf, endOfReplayRows, endOfReplayOf};
 
 pub fn time(bytes: &[u8]) -> u64
     requires { ⌜ 11 ≤ length (now bytes) ⌝ }
@@ -34,14 +33,6 @@ pub fn condition(bytes: &[u8]) -> u8
     field::read1(bytes, 15)
 }
 
-// The price of a side that begins at `at`, of four bytes each.
-pub fn long_price(bytes: &[u8], at: usize) -> u32
-    requires { ⌜ at + 20 ≤ length (now bytes) ⌝ }
-    ensures { λ r. ⌜ r ≡ be (part (now (bytes .entry)) (at + 4) 4) ⌝ }
-{
-    field::read4(bytes, at + 4)
-}
-
 fn stamp(bytes: &[u8]) -> Stamp
     requires { ⌜ 11 ≤ length (now bytes) ⌝ }
     ensures { λ r. ⌜ r ≡ stampOf (values stampRows (now (bytes .entry))) ⌝ }
@@ -49,32 +40,6 @@ fn stamp(bytes: &[u8]) -> Stamp
     Stamp {
         tracking: field::read2(bytes, 1),
         time: time(bytes),
-    }
-}
-
-fn short_numbers(bytes: &[u8], at: usize) -> ShortNumbers
-    requires { ⌜ at + 10 ≤ length (now bytes) ⌝ }
-    ensures { λ r. ⌜ r ≡ shortNumbersOf (values (shortNumbersRows at) (now (bytes .entry))) ⌝ }
-{
-    ShortNumbers {
-        market: field::read2(bytes, at),
-        price: field::read2(bytes, at + 2),
-        size: field::read2(bytes, at + 4),
-        customer: field::read2(bytes, at + 6),
-        professional: field::read2(bytes, at + 8),
-    }
-}
-
-fn long_numbers(bytes: &[u8], at: usize) -> LongNumbers
-    requires { ⌜ at + 20 ≤ length (now bytes) ⌝ }
-    ensures { λ r. ⌜ r ≡ longNumbersOf (values (longNumbersRows at) (now (bytes .entry))) ⌝ }
-{
-    LongNumbers {
-        market: field::read4(bytes, at),
-        price: long_price(bytes, at),
-        size: field::read4(bytes, at + 8),
-        customer: field::read4(bytes, at + 12),
-        professional: field::read4(bytes, at + 16),
     }
 }
 
@@ -117,8 +82,8 @@ pub fn short_quote(bytes: &[u8]) -> ShortQuote
         stamp: stamp(bytes),
         id: field::read4(bytes, 11),
         condition: condition(bytes),
-        bid: short_numbers(bytes, 16),
-        ask: short_numbers(bytes, 26),
+        bid: numbers::short(bytes, 16),
+        ask: numbers::short(bytes, 26),
     }
 }
 
@@ -130,8 +95,8 @@ pub fn long_quote(bytes: &[u8]) -> LongQuote
         stamp: stamp(bytes),
         id: field::read4(bytes, 11),
         condition: condition(bytes),
-        bid: long_numbers(bytes, 16),
-        ask: long_numbers(bytes, 36),
+        bid: numbers::long(bytes, 16),
+        ask: numbers::long(bytes, 36),
     }
 }
 
@@ -144,7 +109,7 @@ pub fn short_side(bytes: &[u8], side: Side) -> ShortSide
         id: field::read4(bytes, 11),
         condition: condition(bytes),
         side,
-        numbers: short_numbers(bytes, 16),
+        numbers: numbers::short(bytes, 16),
     }
 }
 
@@ -157,7 +122,7 @@ pub fn long_side(bytes: &[u8], side: Side) -> LongSide
         id: field::read4(bytes, 11),
         condition: condition(bytes),
         side,
-        numbers: long_numbers(bytes, 16),
+        numbers: numbers::long(bytes, 16),
     }
 }
 

@@ -11,7 +11,7 @@ returns c =
     let s2 = s3 .before .before .before .before in
     let s1 = s2 .before .before .before .before in
     let s0 = s1 .before .before .before .before .before .before in
-    long-quote-put (s0 .args .out .now) (s0 .args .m) (s0 .pre) (s1 .head .ensures) (s2 .long-numbers .ensures) (s3 .long-numbers2 .ensures)
+    long-quote-put (s0 .args .out .now) (s0 .args .m) (s0 .pre) (s1 .head .ensures) (s2 .put-long .ensures) (s3 .put-long2 .ensures)
 
 pub long-quote-spec : {M : Type 1} → statement M
 long-quote-spec =

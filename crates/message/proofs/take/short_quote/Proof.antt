@@ -12,8 +12,8 @@ returns c i =
       stamp = c .before .before .before .before .stamp .ensures i;
       id = c .before .before .before .read4 .ensures i;
       condition = c .before .before .condition .ensures i;
-      bid = c .before .short-numbers .ensures i;
-      ask = c .short-numbers2 .ensures i;
+      bid = c .before .short .ensures i;
+      ask = c .short2 .ensures i;
     }
 
 pub short-quote-spec : {M : Type 1} → statement M

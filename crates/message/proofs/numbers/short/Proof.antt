@@ -1,15 +1,15 @@
--- `message::take::short_numbers` meets its contract.
+-- `message::numbers::short` meets its contract.
 -- Assumes nothing.
 use borrow.Author.Needs.{needs}
 use Rattle.message.specs.Layout.{values}
-use Rattle.message.proofs.take.short_numbers.Statement.{statement}
-use Rattle.message.proofs.take.short_numbers.Tie as tie
+use Rattle.message.proofs.numbers.short.Statement.{statement}
+use Rattle.message.proofs.numbers.short.Tie as tie
 
 returns : tie.Need-returns
 unfolding values
 returns c = cc
 
-pub short-numbers-spec : {M : Type 1} → statement M
-short-numbers-spec =
+pub short-spec : {M : Type 1} → statement M
+short-spec =
     tie.close
     (tie.spec (λ c κs. search needs) (λ c. search needs) (λ c κs. search needs) (λ c. search needs) (λ c κs. search needs) (λ c. search needs) (λ c κs. search needs) (λ c. search needs) (λ c κs. search needs) returns)

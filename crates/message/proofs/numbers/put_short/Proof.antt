@@ -1,9 +1,9 @@
--- `message::put::long_numbers` meets its contract.
+-- `message::numbers::put_short` meets its contract.
 -- Assumes nothing.
 use borrow.Author.Needs.{needs}
-use Rattle.message.proofs.Puts.{long-numbers-put}
-use Rattle.message.proofs.put.long_numbers.Statement.{statement}
-use Rattle.message.proofs.put.long_numbers.Tie as tie
+use Rattle.message.proofs.Puts.{short-numbers-put}
+use Rattle.message.proofs.numbers.put_short.Statement.{statement}
+use Rattle.message.proofs.numbers.put_short.Tie as tie
 
 returns : tie.Need-returns
 returns c =
@@ -13,9 +13,9 @@ returns c =
     let s2 = s3 .before .before .before .before in
     let s1 = s2 .before .before .before .before in
     let s0 = s1 .before .before .before in
-    long-numbers-put (s0 .args .out .now) (s0 .args .at) (s0 .args .n) (s0 .pre) (s1 .write4 .ensures) (s2 .write42 .ensures) (s3 .write43 .ensures) (s4 .write44 .ensures) (s5 .write45 .ensures)
+    short-numbers-put (s0 .args .out .now) (s0 .args .at) (s0 .args .n) (s0 .pre) (s1 .write2 .ensures) (s2 .write22 .ensures) (s3 .write23 .ensures) (s4 .write24 .ensures) (s5 .write25 .ensures)
 
-pub long-numbers-spec : {M : Type 1} → statement M
-long-numbers-spec =
+pub put-short-spec : {M : Type 1} → statement M
+put-short-spec =
     tie.close
     (tie.spec (λ c κs. search needs) (λ c. search needs) (λ c κs. search needs) (λ c. search needs) (λ c κs. search needs) (λ c. search needs) (λ c κs. search needs) (λ c. search needs) (λ c κs. search needs) (λ c. search needs) returns)

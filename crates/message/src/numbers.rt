@@ -1,0 +1,65 @@
+// The five numbers of a side: taken from bytes, and put into them.
+use crate::LongNumbers;
+use crate::ShortNumbers;
+ghost use mathlib.Core.Path.{_≡_};
+ghost use Prim.Native.Nat.{_+_, _≤_};
+ghost use lib.ListN.{length};
+ghost use Rattle.field.specs.Bytes.{part, overlay, be};
+ghost use Rattle.message.specs.Layout.{values, bytesFor};
+ghost use Rattle.message.specs.Letters.{shortNumbersRows, shortNumbersOf, shortNumbersFields, longNumbersRows, longNumbersOf, longNumbersFields};
+
+// The price of a side that begins at `at`, of four bytes each.
+pub fn long_price(bytes: &[u8], at: usize) -> u32
+    requires { ⌜ at + 20 ≤ length (now bytes) ⌝ }
+    ensures { λ r. ⌜ r ≡ be (part (now (bytes .entry)) (at + 4) 4) ⌝ }
+{
+    field::read4(bytes, at + 4)
+}
+
+pub fn short(bytes: &[u8], at: usize) -> ShortNumbers
+    requires { ⌜ at + 10 ≤ length (now bytes) ⌝ }
+    ensures { λ r. ⌜ r ≡ shortNumbersOf (values (shortNumbersRows at) (now (bytes .entry))) ⌝ }
+{
+    ShortNumbers {
+        market: field::read2(bytes, at),
+        price: field::read2(bytes, at + 2),
+        size: field::read2(bytes, at + 4),
+        customer: field::read2(bytes, at + 6),
+        professional: field::read2(bytes, at + 8),
+    }
+}
+
+pub fn long(bytes: &[u8], at: usize) -> LongNumbers
+    requires { ⌜ at + 20 ≤ length (now bytes) ⌝ }
+    ensures { λ r. ⌜ r ≡ longNumbersOf (values (longNumbersRows at) (now (bytes .entry))) ⌝ }
+{
+    LongNumbers {
+        market: field::read4(bytes, at),
+        price: long_price(bytes, at),
+        size: field::read4(bytes, at + 8),
+        customer: field::read4(bytes, at + 12),
+        professional: field::read4(bytes, at + 16),
+    }
+}
+
+pub fn put_short(out: &mut [u8], at: usize, n: ShortNumbers)
+    requires { ⌜ at + 10 ≤ length (now out) ⌝ }
+    ensures { λ r. ⌜ now (out .exit) ≡ overlay (now (out .entry)) at (bytesFor (shortNumbersRows at) (shortNumbersFields n)) ⌝ }
+{
+    field::write2(out, at, n.market);
+    field::write2(out, at + 2, n.price);
+    field::write2(out, at + 4, n.size);
+    field::write2(out, at + 6, n.customer);
+    field::write2(out, at + 8, n.professional);
+}
+
+pub fn put_long(out: &mut [u8], at: usize, n: LongNumbers)
+    requires { ⌜ at + 20 ≤ length (now out) ⌝ }
+    ensures { λ r. ⌜ now (out .exit) ≡ overlay (now (out .entry)) at (bytesFor (longNumbersRows at) (longNumbersFields n)) ⌝ }
+{
+    field::write4(out, at, n.market);
+    field::write4(out, at + 4, n.price);
+    field::write4(out, at + 8, n.size);
+    field::write4(out, at + 12, n.customer);
+    field::write4(out, at + 16, n.professional);
+}
