@@ -1,0 +1,43 @@
+-- Examples, by computing.
+-- Assumes nothing.
+use mathlib.Core.Path.{_≡_, refl}
+use mathlib.Core.List.{List, [], _∷_}
+use Prim.Native.Nat.{ℕ}
+use lib.ListN.{replicate}
+use Rattle.field.specs.Bytes.{part, overlay, digits, value}
+use Rattle.message.specs.Layout.{bytesFor}
+use Rattle.message.specs.declared.Side.the-variants.{Bid, Ask}
+use Rattle.message.specs.declared.ShortNumbers.{ShortNumbers}
+use Rattle.row.specs.Fields.{sidesOf, priceOf, numbersOf, seenWith}
+use Rattle.row.specs.Changes.{changed, widened, sidesChanges, quoteChanges}
+use Rattle.row.specs.declared.Sides.the-variants.{One}
+use Rattle.row.specs.declared.Quote.{Quote}
+
+-- C10: pennies `00 7D` are 1.2500, `FF FF` are 655.3500
+abbrev pennies : ℕ → ShortNumbers
+pennies p = record { market = 0; price = p; size = 10; customer = 0; professional = 0 }
+
+c10-low : widened (pennies 125) .price ≡ 12_500
+c10-low = refl
+
+c10-high : widened (pennies 65_535) .price ≡ 6_553_500
+c10-high = refl
+
+-- a bid of 1.25 in a row of zeros: its side is seen, its price is 12,500 ten-thousandths, and the ask is as it was
+abbrev bid : Quote
+bid = record { stamp = record { tracking = 1; time = 2 }; id = 7; condition = 32; sides = One Bid (widened (pennies 125)) }
+
+abbrev row-after : List ℕ
+row-after = changed (quoteChanges bid (replicate 124 0)) (replicate 124 0)
+
+bid-seen : sidesOf row-after ≡ 1
+unfolding changed quoteChanges sidesChanges seenWith overlay part digits value bytesFor
+bid-seen = refl
+
+bid-price : priceOf Bid row-after ≡ 12_500
+unfolding changed quoteChanges sidesChanges seenWith overlay part digits value bytesFor
+bid-price = refl
+
+ask-left : numbersOf Ask row-after ≡ replicate 20 0
+unfolding changed quoteChanges sidesChanges seenWith overlay part digits value bytesFor
+ask-left = refl

@@ -1,0 +1,419 @@
+-- THE ROW RULES ARE KEPT by every message that keeps its own field rules.
+-- Assumes nothing.
+use mathlib.Core.Path.{_≡_, refl, sym, ap, subst, _∙_}
+use mathlib.Core.Bool.{Bool, true, false, cond, _&&_, _||_, not}
+use mathlib.Core.List.{List, [], _∷_, _++_}
+use Prim.Native.Nat.{ℕ, zero, suc, _+_, _^_, _≤_, _<_}
+use native.Mathlib.Nat.{add-zero}
+use native.Mathlib.Omega.{arith}
+use borrow.Author.Tests.{eq-eqb, ne-eqb, eqb-true, leb-true, le-leb}
+use lib.Dec.{eqb, leb, lit<}
+use lib.ListN.{length, replicate, length-replicate}
+use Rattle.field.specs.Bytes.{part, value, digits, be, bytesBe}
+use Rattle.field.specs.Limits.{timeInRange, latestTime, priceInRange, priceEnd}
+use Rattle.field.specs.Text.{within, every, isZero}
+use Rattle.field.proofs.Bools.{both-left, both-right}
+use Rattle.field.proofs.Parts.{part-part}
+use Rattle.field.proofs.Numbers.{value-digits}
+use Rattle.message.specs.Layout.{Value, values, keepsAll, bytesFor, tiled, from, Fit}
+use Rattle.message.specs.Letters.{listed, states, conditions, stampRows, stampFields, longNumbersRows, longNumbersFields, instrumentRows, instrumentFields, entryRows}
+use Rattle.message.specs.declared.Stamp.{Stamp}
+use Rattle.message.specs.declared.Side.{Side}
+use Rattle.message.specs.declared.Side.the-variants.{Bid, Ask}
+use Rattle.message.specs.declared.LongNumbers.{LongNumbers}
+use Rattle.message.specs.declared.Instrument.{Instrument}
+use Rattle.message.specs.declared.Directory.{Directory}
+use Rattle.message.specs.declared.TradingAction.{TradingAction}
+use Rattle.message.specs.declared.Texts.{Texts}
+use Rattle.message.proofs.Layouts.{values-back, values-in-part, rowsIn, fields-length}
+use Rattle.row.specs.Fields.{rowSize, other, stateOf, conditionOf, sidesOf, sideAt, numbersOf, priceOf, timeOf, hasSeen, seenWith}
+use Rattle.row.specs.Changes.{Change, change, changed, places, outside, entryChange, stateChange, conditionChange, seenChange, numbersChange, stampChange, purge, purgeFor, sidesChanges, directoryChanges, newRow, actionChanges, quoteChanges}
+use Rattle.row.specs.Rules.{entryKeeps, marksKeep, sideKeeps, bareKeeps, stampKeeps, spareKeeps, rowKeeps}
+use Rattle.row.specs.declared.Sides.{Sides}
+use Rattle.row.specs.declared.Sides.the-variants.{One, Both}
+use Rattle.row.specs.declared.Quote.{Quote}
+use Rattle.row.proofs.Changed.{Wide, inside, part-kept, part-put}
+
+-- ---- the rules one by one
+
+pub record RowKept (r : List ℕ) : Type 0 where
+  pub entry : entryKeeps r ≡ true
+  pub state : listed (0 ∷ states) (stateOf r) ≡ true
+  pub condition : listed conditions (conditionOf r) ≡ true
+  pub sides : leb (sidesOf r) 3 ≡ true
+  pub bid : sideKeeps Bid r ≡ true
+  pub ask : sideKeeps Ask r ≡ true
+  pub bare : bareKeeps r ≡ true
+  pub stamp : stampKeeps r ≡ true
+  pub spare : spareKeeps r ≡ true
+
+pub keeps-of : (r : List ℕ) → RowKept r → rowKeeps r ≡ true
+unfolding rowKeeps marksKeep
+keeps-of r k = rw (k .entry, k .state, k .condition, k .sides, k .bid, k .ask, k .bare, k .stamp) (k .spare)
+
+pub kept-of : (r : List ℕ) → rowKeeps r ≡ true → RowKept r
+unfolding rowKeeps marksKeep
+kept-of r k =
+    let a = entryKeeps r in
+    let s = listed (0 ∷ states) (stateOf r) in
+    let c = listed conditions (conditionOf r) in
+    let l = leb (sidesOf r) 3 in
+    let t2 = both-right a (s && (c && l) && (sideKeeps Bid r && (sideKeeps Ask r && (bareKeeps r && (stampKeeps r && spareKeeps r))))) k in
+    let m : s && (c && l) ≡ true = both-left (s && (c && l)) (sideKeeps Bid r && (sideKeeps Ask r && (bareKeeps r && (stampKeeps r && spareKeeps r)))) t2 in
+    let t3 = both-right (s && (c && l)) (sideKeeps Bid r && (sideKeeps Ask r && (bareKeeps r && (stampKeeps r && spareKeeps r)))) t2 in
+    let t4 = both-right (sideKeeps Bid r) (sideKeeps Ask r && (bareKeeps r && (stampKeeps r && spareKeeps r))) t3 in
+    let t5 = both-right (sideKeeps Ask r) (bareKeeps r && (stampKeeps r && spareKeeps r)) t4 in
+    let t6 = both-right (bareKeeps r) (stampKeeps r && spareKeeps r) t5 in
+    record {
+      entry = both-left a (s && (c && l) && (sideKeeps Bid r && (sideKeeps Ask r && (bareKeeps r && (stampKeeps r && spareKeeps r))))) k;
+      state = both-left s (c && l) m;
+      condition = both-left c l (both-right s (c && l) m);
+      sides = both-right c l (both-right s (c && l) m);
+      bid = both-left (sideKeeps Bid r) (sideKeeps Ask r && (bareKeeps r && (stampKeeps r && spareKeeps r))) t3;
+      ask = both-left (sideKeeps Ask r) (bareKeeps r && (stampKeeps r && spareKeeps r)) t4;
+      bare = both-left (bareKeeps r) (stampKeeps r && spareKeeps r) t5;
+      stamp = both-left (stampKeeps r) (spareKeeps r) t6;
+      spare = both-right (stampKeeps r) (spareKeeps r) t6;
+    }
+
+-- ---- what each rule looks at
+
+-- a byte that is put is read back
+pub one-back : (r : List ℕ) (at v : ℕ) → v < 256 → part r at 1 ≡ bytesBe 1 v → be (part r at 1) ≡ v
+one-back r at v h e = ap be e ∙ value-digits 256 (lit< tt) 1 v h
+
+module _ (r r′ : List ℕ) where
+  pub entry-same : part r′ 0 52 ≡ part r 0 52 → entryKeeps r′ ≡ entryKeeps r
+  unfolding entryKeeps rowsIn
+  entry-same e =
+      ap (keepsAll entryRows)
+      (sym (values-in-part 0 52 entryRows r′ refl) ∙ ap (values (from 0 entryRows)) e ∙ values-in-part 0 52 entryRows r refl)
+
+  side-same : (side : Side) → hasSeen side (sidesOf r′) ≡ hasSeen side (sidesOf r) → numbersOf side r′ ≡ numbersOf side r → sideKeeps side r′ ≡ sideKeeps side r
+  unfolding sideKeeps
+  side-same side e f =
+      let p : priceOf side r′ ≡ priceOf side r
+      = ap be (sym (part-part r′ (sideAt side) 20 4 4 (omega arith)) ∙ ap (λ (x : List ℕ). part x 4 4) f ∙ part-part r (sideAt side) 20 4 4 (omega arith)) in
+      rw (e, f, p)
+
+  spare-same : part r′ 55 1 ≡ part r 55 1 → part r′ 106 18 ≡ part r 106 18 → spareKeeps r′ ≡ spareKeeps r
+  unfolding spareKeeps
+  spare-same e f = rw (e, f)
+
+  bare-same : part r′ 53 1 ≡ part r 53 1 → part r′ 54 1 ≡ part r 54 1 → bareKeeps r′ ≡ bareKeeps r
+  unfolding bareKeeps
+  bare-same e f = rw (e, f)
+
+-- a side that is put is seen, and its price is in range
+side-put : (r : List ℕ) (side : Side) (n : LongNumbers) → hasSeen side (sidesOf r) ≡ true → priceInRange (n .price) ≡ true
+    → numbersOf side r ≡ bytesFor (longNumbersRows (sideAt side)) (longNumbersFields n) → sideKeeps side r ≡ true
+unfolding sideKeeps digits bytesFor part
+side-put r side n s p e =
+    let f : part (numbersOf side r) 4 4 ≡ bytesBe 4 (n .price) = ap (λ (x : List ℕ). part x 4 4) e in
+    let g : priceOf side r ≡ n .price
+    = ap be (sym (part-part r (sideAt side) 20 4 4 (omega arith)) ∙ f) ∙ value-digits 256 (lit< tt) 4 (n .price) (omega (arith, leb-true (suc (n .price)) priceEnd p)) in
+    rw (s, g) p
+
+-- an unseen side that is zero
+side-zero : (r : List ℕ) (side : Side) → numbersOf side r ≡ replicate 20 0 → sideKeeps side r ≡ true
+unfolding sideKeeps part value every
+side-zero r side e =
+    let g : priceOf side r ≡ 0 = ap be (sym (part-part r (sideAt side) 20 4 4 (omega arith)) ∙ ap (λ (x : List ℕ). part x 4 4) e) in
+    rw (e, g) (or-true (hasSeen side (sidesOf r)))
+  where
+    or-true : (b : Bool) → (b || true) && true ≡ true
+    or-true true = refl
+    or-true false = refl
+
+stamp-put : (r : List ℕ) (s : Stamp) → timeInRange (s .time) ≡ true → part r 96 10 ≡ bytesFor stampRows (stampFields s) → stampKeeps r ≡ true
+unfolding stampKeeps digits bytesFor part
+stamp-put r s t e =
+    let f : part r 98 8 ≡ bytesBe 8 (s .time) = sym (part-part r 96 10 2 8 (omega arith)) ∙ ap (λ (x : List ℕ). part x 2 8) e in
+    let g : timeOf r ≡ s .time = ap be f ∙ value-digits 256 (lit< tt) 8 (s .time) (omega (arith, leb-true (s .time) latestTime t)) in
+    rw g t
+
+-- the sides seen, and one more of them
+module _ where
+  record Seen (side : Side) (s : ℕ) : Type 0 where
+    few : seenWith side s ≤ 3
+    some : eqb (seenWith side s) 0 ≡ false
+    own : hasSeen side (seenWith side s) ≡ true
+    rest : hasSeen (other side) (seenWith side s) ≡ hasSeen (other side) s
+
+  seen : (side : Side) (s : ℕ) → s ≤ 3 → Seen side s
+  unfolding seenWith
+  seen Bid zero h = record { few = omega arith; some = refl; own = refl; rest = refl }
+  seen Bid (suc zero) h = record { few = omega arith; some = refl; own = refl; rest = refl }
+  seen Bid (suc (suc zero)) h = record { few = omega arith; some = refl; own = refl; rest = refl }
+  seen Bid (suc (suc (suc zero))) h = record { few = omega arith; some = refl; own = refl; rest = refl }
+  seen Bid (suc (suc (suc (suc s)))) h = absurd (omega arith)
+  seen Ask zero h = record { few = omega arith; some = refl; own = refl; rest = refl }
+  seen Ask (suc zero) h = record { few = omega arith; some = refl; own = refl; rest = refl }
+  seen Ask (suc (suc zero)) h = record { few = omega arith; some = refl; own = refl; rest = refl }
+  seen Ask (suc (suc (suc zero))) h = record { few = omega arith; some = refl; own = refl; rest = refl }
+  seen Ask (suc (suc (suc (suc s)))) h = absurd (omega arith)
+
+-- a listed code is a byte
+listed-below : (xs : List ℕ) (c : ℕ) → every (within 0 255) xs ≡ true → listed xs c ≡ true → c < 256
+unfolding listed every
+listed-below [] c b e = let y : false ≡ true = e in let z : _≡_ {A = ℕ} 0 1 = cc in omega arith
+listed-below (x ∷ xs) c b e = by (eqb x c) refl e (listed-below xs c (both-right (within 0 255 x) (every (within 0 255) xs) b))
+  where
+    by : (t : Bool) → eqb x c ≡ t → cond t true (listed xs c) ≡ true → (listed xs c ≡ true → c < 256) → c < 256
+    by true t f rec = omega (arith, eqb-true x c t, leb-true x 255 (both-right (leb 0 x) (leb x 255) (both-left (within 0 255 x) (every (within 0 255) xs) b)))
+    by false t f rec = rec f
+
+-- ---- a quote
+
+-- the prices of a quote's own side or sides are in range
+abbrev pub PricesIn : Sides → Type 0
+PricesIn (One side n) = priceInRange (n .price) ≡ true
+PricesIn (Both bid ask) = (priceInRange (bid .price) ≡ true) × (priceInRange (ask .price) ≡ true)
+
+module _ (c : ℕ) (s : Stamp) (r : List ℕ) (long : rowSize ≤ length r) (hc : listed conditions c ≡ true) (ht : timeInRange (s .time) ≡ true) (k : RowKept r) where
+  few : sidesOf r ≤ 3
+  few = leb-true (sidesOf r) 3 (k .sides)
+
+  -- what every quote's changes leave and put
+  record Quoted (r′ : List ℕ) (sides : ℕ) : Type 0 where
+    entry : part r′ 0 52 ≡ part r 0 52
+    state : part r′ 52 1 ≡ part r 52 1
+    condition : part r′ 53 1 ≡ bytesBe 1 c
+    seen : part r′ 54 1 ≡ bytesBe 1 sides
+    gap : part r′ 55 1 ≡ part r 55 1
+    stamp : part r′ 96 10 ≡ bytesFor stampRows (stampFields s)
+    tail : part r′ 106 18 ≡ part r 106 18
+
+  quoted-sides : {r′ : List ℕ} {sides : ℕ} → Quoted r′ sides → sides ≤ 3 → sidesOf r′ ≡ sides
+  quoted-sides {r′} {sides} q h = one-back r′ 54 sides (omega arith) (q .seen)
+
+  quoted-kept : (r′ : List ℕ) (sides : ℕ) → Quoted r′ sides → sides ≤ 3 → eqb sides 0 ≡ false → sideKeeps Bid r′ ≡ true → sideKeeps Ask r′ ≡ true → RowKept r′
+  unfolding bareKeeps every
+  quoted-kept r′ sides q h n b a =
+      let w : sidesOf r′ ≡ sides = quoted-sides q h in
+      record {
+        entry = entry-same r r′ (q .entry) ∙ k .entry;
+        state = ap (λ (x : List ℕ). listed (0 ∷ states) (be x)) (q .state) ∙ k .state;
+        condition = ap (listed conditions) (one-back r′ 53 c (listed-below conditions c refl hc) (q .condition)) ∙ hc;
+        sides = ap (λ (x : ℕ). leb x 3) w ∙ le-leb sides 3 h;
+        bid = b;
+        ask = a;
+        bare = rw (w, n);
+        stamp = stamp-put r′ s ht (q .stamp);
+        spare = spare-same r r′ (q .gap) (q .tail) ∙ k .spare;
+      }
+
+  -- the changes of a quote, with the numbers of its own side or sides last
+  abbrev quotes : ℕ → List Change → List Change
+  quotes sides nums = conditionChange c ∷ stampChange s ∷ seenChange sides ∷ nums
+
+  -- the numbers stand where nothing else of a row does
+  abbrev Clear : List Change → Type 0
+  Clear nums =
+      (outside 0 52 (places nums) ≡ true) × (outside 52 1 (places nums) ≡ true) × (outside 53 1 (places nums) ≡ true) × (outside 54 1 (places nums) ≡ true)
+      × (outside 55 1 (places nums) ≡ true) × (outside 96 10 (places nums) ≡ true) × (outside 106 18 (places nums) ≡ true)
+
+  module _ (sides : ℕ) (nums : List Change) (wide : Wide nums) (within : inside 124 nums ≡ true) (clear : Clear nums) where
+    all-wide : Wide (quotes sides nums)
+    unfolding digits bytesFor
+    all-wide = (refl, (refl, (refl, wide)))
+
+    all-inside : inside 124 (quotes sides nums) ≡ true
+    unfolding inside
+    all-inside = within
+
+    quoted : Quoted (changed (quotes sides nums) r) sides
+    unfolding outside
+    quoted =
+        let cs : List Change = quotes sides nums in
+        record {
+          entry = part-kept cs r 124 0 52 all-wide long all-inside (clear .0);
+          state = part-kept cs r 124 52 1 all-wide long all-inside (clear .1);
+          condition = part-put [] (conditionChange c) (stampChange s ∷ seenChange sides ∷ nums) r 124 all-wide long all-inside (clear .2);
+          seen = part-put (conditionChange c ∷ stampChange s ∷ []) (seenChange sides) nums r 124 all-wide long all-inside (clear .3);
+          gap = part-kept cs r 124 55 1 all-wide long all-inside (clear .4);
+          stamp = part-put (conditionChange c ∷ []) (stampChange s) (seenChange sides ∷ nums) r 124 all-wide long all-inside (clear .5);
+          tail = part-kept cs r 124 106 18 all-wide long all-inside (clear .6);
+        }
+
+    -- of a side that is put, and of one that is left
+    numbers-put : (before after : List Change) (at : ℕ) (n : LongNumbers) → nums ≡ before ++ (numbersChange at n ∷ after) → outside at 20 (places after) ≡ true
+        → part (changed (quotes sides nums) r) at 20 ≡ bytesFor (longNumbersRows at) (longNumbersFields n)
+    numbers-put before after at n e o =
+        let cs : List Change = quotes sides before in
+        let i : quotes sides nums ≡ cs ++ (numbersChange at n ∷ after) = ap (quotes sides) e in
+        ap (λ (x : List Change). part (changed x r) at 20) i
+        ∙ part-put cs (numbersChange at n) after r 124 (subst Wide i all-wide) long (subst (λ (x : List Change). inside 124 x ≡ true) i all-inside) o
+
+    numbers-left : (at : ℕ) → outside at 20 (places (quotes sides nums)) ≡ true → part (changed (quotes sides nums) r) at 20 ≡ part r at 20
+    numbers-left at o = part-kept (quotes sides nums) r 124 at 20 all-wide long all-inside o
+
+  -- THEOREM: a quote keeps the row rules
+  pub quote-keeps : (sides : Sides) → PricesIn sides → RowKept (changed (conditionChange c ∷ stampChange s ∷ sidesChanges sides (sidesOf r)) r)
+  unfolding sidesChanges digits bytesFor inside outside
+  quote-keeps (One Bid n) p =
+      let e = seen Bid (sidesOf r) few in
+      let nums : List Change = numbersChange 56 n ∷ [] in
+      let sides = seenWith Bid (sidesOf r) in
+      let clear : Clear nums = (refl, refl, refl, refl, refl, refl, refl) in
+      let q = quoted sides nums (refl, tt) refl clear in
+      let v = quoted-sides q (e .few) in
+      quoted-kept (changed (quotes sides nums) r) sides q (e .few) (e .some)
+      (side-put (changed (quotes sides nums) r) Bid n (ap (hasSeen Bid) v ∙ e .own) p (numbers-put sides nums (refl, tt) refl clear [] [] 56 n refl refl))
+      (side-same r (changed (quotes sides nums) r) Ask (ap (hasSeen Ask) v ∙ e .rest) (numbers-left sides nums (refl, tt) refl clear 76 refl) ∙ k .ask)
+  quote-keeps (One Ask n) p =
+      let e = seen Ask (sidesOf r) few in
+      let nums : List Change = numbersChange 76 n ∷ [] in
+      let sides = seenWith Ask (sidesOf r) in
+      let clear : Clear nums = (refl, refl, refl, refl, refl, refl, refl) in
+      let q = quoted sides nums (refl, tt) refl clear in
+      let v = quoted-sides q (e .few) in
+      quoted-kept (changed (quotes sides nums) r) sides q (e .few) (e .some)
+      (side-same r (changed (quotes sides nums) r) Bid (ap (hasSeen Bid) v ∙ e .rest) (numbers-left sides nums (refl, tt) refl clear 56 refl) ∙ k .bid)
+      (side-put (changed (quotes sides nums) r) Ask n (ap (hasSeen Ask) v ∙ e .own) p (numbers-put sides nums (refl, tt) refl clear [] [] 76 n refl refl))
+  quote-keeps (Both bid ask) p =
+      let d = seen Bid (sidesOf r) few in
+      let e = seen Ask (seenWith Bid (sidesOf r)) (d .few) in
+      let nums : List Change = numbersChange 56 bid ∷ numbersChange 76 ask ∷ [] in
+      let sides = seenWith Ask (seenWith Bid (sidesOf r)) in
+      let clear : Clear nums = (refl, refl, refl, refl, refl, refl, refl) in
+      let q = quoted sides nums (refl, (refl, tt)) refl clear in
+      let v = quoted-sides q (e .few) in
+      quoted-kept (changed (quotes sides nums) r) sides q (e .few) (e .some)
+      (side-put (changed (quotes sides nums) r) Bid bid (ap (hasSeen Bid) v ∙ e .rest ∙ d .own) (p .0)
+      (numbers-put sides nums (refl, (refl, tt)) refl clear [] (numbersChange 76 ask ∷ []) 56 bid refl refl))
+      (side-put (changed (quotes sides nums) r) Ask ask (ap (hasSeen Ask) v ∙ e .own) (p .1)
+      (numbers-put sides nums (refl, (refl, tt)) refl clear (numbersChange 56 bid ∷ []) [] 76 ask refl refl))
+
+-- ---- a trading action
+
+first-true : (b : Bool) → cond b true true ≡ true
+first-true true = refl
+first-true false = refl
+
+-- THEOREM: a trading action keeps the row rules
+pub action-keeps : (a : TradingAction) (r : List ℕ) → rowSize ≤ length r → listed states (a .state) ≡ true → timeInRange (a .stamp .time) ≡ true → RowKept r
+    → RowKept (changed (actionChanges a) r)
+unfolding actionChanges digits bytesFor inside outside listed every
+action-keeps a r long hs ht k =
+    let cs : List Change = stateChange (a .state) ∷ stampChange (a .stamp) ∷ [] in
+    let w : Wide cs = (refl, (refl, tt)) in
+    let r′ : List ℕ = changed cs r in
+    let left : (i m : ℕ) → outside i m (places cs) ≡ true → part r′ i m ≡ part r i m = λ i m o. part-kept cs r 124 i m w long refl o in
+    let v : sidesOf r′ ≡ sidesOf r = ap be (left 54 1 refl) in
+    let s : stateOf r′ ≡ a .state = one-back r′ 52 (a .state) (listed-below states (a .state) refl hs) (part-put [] (stateChange (a .state)) (stampChange (a .stamp) ∷ []) r 124 w long refl refl) in
+    record {
+      entry = entry-same r r′ (left 0 52 refl) ∙ k .entry;
+      state = ap (listed (0 ∷ states)) s ∙ ap (λ (b : Bool). cond (eqb 0 (a .state)) true b) hs ∙ first-true (eqb 0 (a .state));
+      condition = ap (λ (x : List ℕ). listed conditions (be x)) (left 53 1 refl) ∙ k .condition;
+      sides = ap (λ (x : ℕ). leb x 3) v ∙ k .sides;
+      bid = side-same r r′ Bid (ap (hasSeen Bid) v) (left 56 20 refl) ∙ k .bid;
+      ask = side-same r r′ Ask (ap (hasSeen Ask) v) (left 76 20 refl) ∙ k .ask;
+      bare = bare-same r r′ (left 53 1 refl) (left 54 1 refl) ∙ k .bare;
+      stamp = stamp-put r′ (a .stamp) ht (part-put (stateChange (a .state) ∷ []) (stampChange (a .stamp)) [] r 124 w long refl refl);
+      spare = spare-same r r′ (left 55 1 refl) (left 106 18 refl) ∙ k .spare;
+    }
+
+-- ---- a directory
+
+module _ (d : Directory) (t : Texts) (fit : Fit instrumentRows (instrumentFields (d .instrument) t))
+    (fine : keepsAll instrumentRows (instrumentFields (d .instrument) t) ≡ true) (ht : timeInRange (d .stamp .time) ≡ true) where
+  abbrev entryBytes : List ℕ
+  entryBytes = bytesFor instrumentRows (instrumentFields (d .instrument) t)
+
+  pub entry-length : length entryBytes ≡ 52
+  unfolding tiled
+  entry-length = omega (arith, fields-length instrumentRows (instrumentFields (d .instrument) t) 11 63 refl fit)
+
+  entry-values : (r : List ℕ) → part r 0 52 ≡ entryBytes → values entryRows r ≡ instrumentFields (d .instrument) t
+  unfolding rowsIn tiled keepsAll bytesFor
+  entry-values r e =
+      sym (values-in-part 0 52 entryRows r refl) ∙ ap (values entryRows) e
+      ∙ values-back entryRows (instrumentFields (d .instrument) t) [] 0 52 refl fit fine refl
+
+  entry-put : (r : List ℕ) → part r 0 52 ≡ entryBytes → entryKeeps r ≡ true
+  unfolding entryKeeps keepsAll
+  entry-put r e = ap (keepsAll entryRows) (entry-values r e) ∙ fine
+
+  -- a row with no quotes
+  bare-kept : (r : List ℕ) → part r 0 52 ≡ entryBytes → listed (0 ∷ states) (stateOf r) ≡ true → part r 53 1 ≡ bytesBe 1 32
+      → part r 54 42 ≡ replicate 42 0 → part r 96 10 ≡ bytesFor stampRows (stampFields (d .stamp)) → every isZero (part r 106 18) ≡ true → RowKept r
+  unfolding bareKeeps spareKeeps listed every part value
+  bare-kept r e s c z m f =
+      let v : conditionOf r ≡ 32 = one-back r 53 32 (lit< tt) c in
+      let inner : (i n : ℕ) → i + n ≤ 42 → part r (54 + i) n ≡ part (replicate 42 0) i n = λ i n h. sym (part-part r 54 42 i n h) ∙ ap (λ (x : List ℕ). part x i n) z in
+      let u : sidesOf r ≡ 0 = ap be (inner 0 1 (omega arith)) in
+      let g : every isZero (part r 55 1) ≡ true = ap (every isZero) (inner 1 1 (omega arith)) in
+      record {
+        entry = entry-put r e;
+        state = s;
+        condition = ap (listed conditions) v;
+        sides = ap (λ (x : ℕ). leb x 3) u;
+        bid = side-zero r Bid (inner 2 20 (omega arith));
+        ask = side-zero r Ask (inner 22 20 (omega arith));
+        bare = rw (u, v);
+        stamp = stamp-put r (d .stamp) ht m;
+        spare = rw (g, f);
+      }
+
+  abbrev known : List Change
+  known = entryChange (d .instrument) t ∷ stampChange (d .stamp) ∷ []
+
+  module _ (r : List ℕ) (long : rowSize ≤ length r) (k : RowKept r) where
+    -- tradable Y: the quotes are left
+    kept-quotes : RowKept (changed known r)
+    unfolding digits bytesFor inside outside
+    kept-quotes =
+        let w : Wide known = (entry-length, (refl, tt)) in
+        let r′ : List ℕ = changed known r in
+        let left : (i m : ℕ) → outside i m (places known) ≡ true → part r′ i m ≡ part r i m = λ i m o. part-kept known r 124 i m w long refl o in
+        let v : sidesOf r′ ≡ sidesOf r = ap be (left 54 1 refl) in
+        record {
+          entry = entry-put r′ (part-put [] (entryChange (d .instrument) t) (stampChange (d .stamp) ∷ []) r 124 w long refl refl);
+          state = ap (λ (x : List ℕ). listed (0 ∷ states) (be x)) (left 52 1 refl) ∙ k .state;
+          condition = ap (λ (x : List ℕ). listed conditions (be x)) (left 53 1 refl) ∙ k .condition;
+          sides = ap (λ (x : ℕ). leb x 3) v ∙ k .sides;
+          bid = side-same r r′ Bid (ap (hasSeen Bid) v) (left 56 20 refl) ∙ k .bid;
+          ask = side-same r r′ Ask (ap (hasSeen Ask) v) (left 76 20 refl) ∙ k .ask;
+          bare = bare-same r r′ (left 53 1 refl) (left 54 1 refl) ∙ k .bare;
+          stamp = stamp-put r′ (d .stamp) ht (part-put (entryChange (d .instrument) t ∷ []) (stampChange (d .stamp)) [] r 124 w long refl refl);
+          spare = spare-same r r′ (left 55 1 refl) (left 106 18 refl) ∙ k .spare;
+        }
+
+    -- tradable N: the quotes are purged
+    purged-quotes : RowKept (changed (known ++ purge) r)
+    unfolding digits bytesFor inside outside spareKeeps
+    purged-quotes =
+        let cs : List Change = known ++ purge in
+        let w : Wide cs = (entry-length, (refl, (refl, (refl, tt)))) in
+        let r′ : List ℕ = changed cs r in
+        bare-kept r′ (part-put [] (entryChange (d .instrument) t) (stampChange (d .stamp) ∷ purge) r 124 w long refl refl)
+        (ap (λ (x : List ℕ). listed (0 ∷ states) (be x)) (part-kept cs r 124 52 1 w long refl refl) ∙ k .state)
+        (part-put known (change 53 1 (bytesBe 1 32)) (change 54 42 (replicate 42 0) ∷ []) r 124 w long refl refl)
+        (part-put (known ++ (change 53 1 (bytesBe 1 32) ∷ [])) (change 54 42 (replicate 42 0)) [] r 124 w long refl refl)
+        (part-put (entryChange (d .instrument) t ∷ []) (stampChange (d .stamp)) purge r 124 w long refl refl)
+        (ap (every isZero) (part-kept cs r 124 106 18 w long refl refl) ∙ both-right (every isZero (part r 55 1)) (every isZero (part r 106 18)) (k .spare))
+
+    -- THEOREM: a directory for a known id keeps the row rules
+    pub directory-keeps : RowKept (changed (directoryChanges d t) r)
+    unfolding directoryChanges
+    directory-keeps = by (eqb (d .instrument .tradable) 78)
+      where
+        by : (n : Bool) → RowKept (changed (entryChange (d .instrument) t ∷ stampChange (d .stamp) ∷ purgeFor n) r)
+        by true = purged-quotes
+        by false = kept-quotes
+
+  -- THEOREM: a new row keeps the row rules
+  pub new-keeps : RowKept (newRow d t)
+  unfolding newRow digits bytesFor inside outside part value listed every
+  new-keeps =
+      let cs : List Change = entryChange (d .instrument) t ∷ conditionChange 32 ∷ stampChange (d .stamp) ∷ [] in
+      let w : Wide cs = (entry-length, (refl, (refl, tt))) in
+      let zeros : List ℕ = replicate 124 0 in
+      let long : 124 ≤ length zeros = omega (arith, length-replicate {A = ℕ} 124 0) in
+      bare-kept (changed cs zeros) (part-put [] (entryChange (d .instrument) t) (conditionChange 32 ∷ stampChange (d .stamp) ∷ []) zeros 124 w long refl refl)
+      (ap (λ (x : List ℕ). listed (0 ∷ states) (be x)) (part-kept cs zeros 124 52 1 w long refl refl))
+      (part-put (entryChange (d .instrument) t ∷ []) (conditionChange 32) (stampChange (d .stamp) ∷ []) zeros 124 w long refl refl)
+      (part-kept cs zeros 124 54 42 w long refl refl)
+      (part-put (entryChange (d .instrument) t ∷ conditionChange 32 ∷ []) (stampChange (d .stamp)) [] zeros 124 w long refl refl)
+      (ap (every isZero) (part-kept cs zeros 124 106 18 w long refl refl))

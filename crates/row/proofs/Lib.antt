@@ -1,0 +1,5 @@
+pub mod Puts
+pub mod Changed
+pub mod Kept
+pub mod Exactly
+mod Examples

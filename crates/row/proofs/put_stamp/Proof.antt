@@ -1,0 +1,12 @@
+-- `row::put_stamp` meets its contract.
+-- Assumes nothing.
+use borrow.Author.Needs.{needs}
+use Rattle.row.proofs.Puts.{stamp-put}
+use Rattle.row.proofs.put_stamp.Statement.{statement}
+use Rattle.row.proofs.put_stamp.Tie as tie
+
+returns : tie.Need-returns
+returns c = search (stamp-put, needs)
+
+pub put-stamp-spec : {M : Type 1} → statement M
+put-stamp-spec = tie.close (tie.spec (λ c κs. search needs) (λ c κs. search needs) (λ c. search needs) returns)

@@ -1,0 +1,80 @@
+-- A row of the table: where each of its fields stands.
+-- Assumes nothing.
+use Prim.Native.Nat.{ℕ, _+_, _/_, _%_}
+use mathlib.Core.Bool.{Bool, _&&_, cond}
+use mathlib.Core.List.{List}
+use lib.Dec.{eqb}
+use Rattle.field.specs.Bytes.{part, be}
+use Rattle.message.specs.declared.Side.{Side}
+use Rattle.message.specs.declared.Side.the-variants.{Bid, Ask}
+
+abbrev pub rowSize : ℕ
+rowSize = 124
+
+-- ---- the places of document 01's table of a row
+
+-- 0-51: bytes 11-62 of the latest directory, and of these the id and tradable
+abbrev pub entryOf : List ℕ → List ℕ
+entryOf r = part r 0 52
+
+abbrev pub idOf : List ℕ → ℕ
+idOf r = be (part r 0 4)
+
+abbrev pub tradableOf : List ℕ → ℕ
+tradableOf r = be (part r 34 1)
+
+-- 52: trading state, 0 before any
+abbrev pub stateOf : List ℕ → ℕ
+stateOf r = be (part r 52 1)
+
+-- 53: condition
+abbrev pub conditionOf : List ℕ → ℕ
+conditionOf r = be (part r 53 1)
+
+-- 54: sides seen, 1 bid, 2 ask, summed
+abbrev pub sidesOf : List ℕ → ℕ
+sidesOf r = be (part r 54 1)
+
+-- 56-75, 76-95: bid, ask, five numbers of 4 bytes, the second of them the price
+abbrev pub sideAt : Side → ℕ
+sideAt Bid = 56
+sideAt Ask = 76
+
+abbrev pub other : Side → Side
+other Bid = Ask
+other Ask = Bid
+
+abbrev pub numbersOf : Side → List ℕ → List ℕ
+numbersOf side r = part r (sideAt side) 20
+
+abbrev pub priceOf : Side → List ℕ → ℕ
+priceOf side r = be (part r (sideAt side + 4) 4)
+
+-- 96-97, 98-105: tracking and time of the row's latest message
+abbrev pub timeOf : List ℕ → ℕ
+timeOf r = be (part r 98 8)
+
+-- ---- the sides seen
+
+-- is the side among those that the sum names?
+abbrev pub hasSeen : Side → ℕ → Bool
+hasSeen Bid sides = eqb (sides % 2) 1
+hasSeen Ask sides = eqb (sides / 2 % 2) 1
+
+abbrev pub weight : Side → ℕ
+weight Bid = 1
+weight Ask = 2
+
+-- the sum with the side in it
+unfoldable pub seenWith : Side → ℕ → ℕ
+seenWith side sides = cond (hasSeen side sides) sides (sides + weight side)
+
+-- ---- what a quote needs
+
+-- may a row in this state take a quote? In T
+abbrev pub stateTakesQuote : ℕ → Bool
+stateTakesQuote state = eqb state 84
+
+-- and tradable Y
+unfoldable pub takesQuote : List ℕ → Bool
+takesQuote r = stateTakesQuote (stateOf r) && eqb (tradableOf r) 89

@@ -1,0 +1,55 @@
+// The fields of a row that others look at.
+use message::Side;
+ghost use mathlib.Core.Path.{_≡_};
+ghost use Prim.Native.Nat.{_≤_};
+ghost use lib.ListN.{length};
+ghost use Rattle.row.specs.Fields.{rowSize, idOf, stateOf, sideAt, sidesOf, priceOf, hasSeen};
+
+pub fn id(row: &[u8]) -> u32
+    requires { ⌜ rowSize ≤ length (now row) ⌝ }
+    ensures { λ r. ⌜ r ≡ idOf (now (row .entry)) ⌝ }
+{
+    field::read4(row, 0)
+}
+
+pub fn state(row: &[u8]) -> u8
+    requires { ⌜ rowSize ≤ length (now row) ⌝ }
+    ensures { λ r. ⌜ r ≡ stateOf (now (row .entry)) ⌝ }
+{
+    field::read1(row, 52)
+}
+
+pub fn sides(row: &[u8]) -> u8
+    requires { ⌜ rowSize ≤ length (now row) ⌝ }
+    ensures { λ r. ⌜ r ≡ sidesOf (now (row .entry)) ⌝ }
+{
+    field::read1(row, 54)
+}
+
+// Where the numbers of a side stand.
+pub fn side_at(side: Side) -> usize
+    ensures { λ r. ⌜ (r ≡ sideAt side) × (r ≤ 76) ⌝ }
+{
+    match side {
+        Side::Bid => 56,
+        Side::Ask => 76,
+    }
+}
+
+pub fn price(row: &[u8], side: Side) -> u32
+    requires { ⌜ rowSize ≤ length (now row) ⌝ }
+    ensures { λ r. ⌜ r ≡ priceOf side (now (row .entry)) ⌝ }
+{
+    let at = side_at(side);
+    field::read4(row, at + 4)
+}
+
+// Is the side among those that the sum names?
+pub fn has_seen(side: Side, sides: u8) -> bool
+    ensures { λ r. ⌜ r ≡ hasSeen side sides ⌝ }
+{
+    match side {
+        Side::Bid => sides % 2 == 1,
+        Side::Ask => sides / 2 % 2 == 1,
+    }
+}

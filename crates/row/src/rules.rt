@@ -1,0 +1,69 @@
+// Document 01's row rules, tested on one row.
+use crate::fields;
+use field::limits;
+use field::text;
+use message::Side;
+use message::codes;
+use message::entry;
+ghost use mathlib.Core.Path.{_≡_};
+ghost use Prim.Native.Nat.{_≤_};
+ghost use lib.ListN.{length};
+ghost use Rattle.row.specs.Fields.{rowSize};
+ghost use Rattle.row.specs.Rules.{entryKeeps, marksKeep, sideKeeps, bareKeeps, stampKeeps, spareKeeps, rowKeeps};
+
+fn entry_keeps(row: &[u8]) -> bool
+    requires { ⌜ rowSize ≤ length (now row) ⌝ }
+    ensures { λ r. ⌜ r ≡ entryKeeps (now (row .entry)) ⌝ }
+{
+    entry::keep(entry::instrument(row), entry::texts(row))
+}
+
+fn marks_keep(row: &[u8]) -> bool
+    requires { ⌜ rowSize ≤ length (now row) ⌝ }
+    ensures { λ r. ⌜ r ≡ marksKeep (now (row .entry)) ⌝ }
+{
+    let state = fields::state(row);
+    ((0 == state) | codes::is_state(state))
+        & (codes::is_condition(field::read1(row, 53)) & (fields::sides(row) <= 3))
+}
+
+fn side_keeps(side: Side, row: &[u8]) -> bool
+    requires { ⌜ rowSize ≤ length (now row) ⌝ }
+    ensures { λ r. ⌜ r ≡ sideKeeps side (now (row .entry)) ⌝ }
+{
+    let at = fields::side_at(side);
+    (fields::has_seen(side, fields::sides(row)) | text::only(row, at, 20, 0))
+        & limits::price_in_range(fields::price(row, side))
+}
+
+fn bare_keeps(row: &[u8]) -> bool
+    requires { ⌜ rowSize ≤ length (now row) ⌝ }
+    ensures { λ r. ⌜ r ≡ bareKeeps (now (row .entry)) ⌝ }
+{
+    (fields::sides(row) != 0) | (field::read1(row, 53) == b' ')
+}
+
+fn stamp_keeps(row: &[u8]) -> bool
+    requires { ⌜ rowSize ≤ length (now row) ⌝ }
+    ensures { λ r. ⌜ r ≡ stampKeeps (now (row .entry)) ⌝ }
+{
+    limits::time_in_range(field::read8(row, 98))
+}
+
+fn spare_keeps(row: &[u8]) -> bool
+    requires { ⌜ rowSize ≤ length (now row) ⌝ }
+    ensures { λ r. ⌜ r ≡ spareKeeps (now (row .entry)) ⌝ }
+{
+    text::only(row, 55, 1, 0) & text::only(row, 106, 18, 0)
+}
+
+pub fn keep(row: &[u8]) -> bool
+    requires { ⌜ rowSize ≤ length (now row) ⌝ }
+    ensures { λ r. ⌜ r ≡ rowKeeps (now (row .entry)) ⌝ }
+{
+    entry_keeps(row)
+        & (marks_keep(row)
+            & (side_keeps(Side::Bid, row)
+                & (side_keeps(Side::Ask, row)
+                    & (bare_keeps(row) & (stamp_keeps(row) & spare_keeps(row))))))
+}
