@@ -1,0 +1,6 @@
+pub mod Search
+pub mod Ways
+pub mod Rows
+pub mod Kept
+pub mod Exactly
+pub mod Answers

@@ -1,0 +1,168 @@
+-- The ways through the code: what it finds and writes is what the definitions say.
+-- Assumes nothing.
+use mathlib.Core.Path.{_≡_, refl, sym, ap, _∙_}
+use mathlib.Core.Bool.{Bool, true, false, cond, _&&_}
+use mathlib.Core.List.{List}
+use Prim.Native.Nat.{ℕ, _+_, _-_, _*_, _≤_, _<_}
+use native.Mathlib.Omega.{arith}
+use borrow.Author.Tests.{eq-eqb, ne-eqb, le-leb, lt-leb}
+use borrow.Rule.Slice.PartMut.{putMid}
+use lib.Dec.{eqb, leb}
+use lib.ListN.{length, replicate, length-replicate}
+use Rattle.field.specs.Bytes.{part, overlay}
+use Rattle.field.proofs.Parts.{part-back, overlay-whole}
+use Rattle.message.specs.declared.Message.{Message}
+use Rattle.message.specs.declared.Message.the-variants as message
+use Rattle.message.specs.declared.SystemEvent.{SystemEvent}
+use Rattle.message.specs.declared.EndOfReplay.{EndOfReplay}
+use Rattle.message.specs.declared.Directory.{Directory}
+use Rattle.message.specs.declared.TradingAction.{TradingAction}
+use Rattle.message.specs.declared.Texts.{Texts}
+use Rattle.row.specs.Fields.{takesQuote}
+use Rattle.row.specs.Changes.{changed, unchanged, newRow, directoryChanges, actionChanges, quoteChanges}
+use Rattle.row.specs.declared.Quote.{Quote}
+use Rattle.table.specs.Memory.{mostRows, tableSize, row, withRow, rowFor}
+use Rattle.table.specs.Board.{outcome, taken, denied, freshBoard, oneMore, withEvent, withLive, fits, startOf, directoryAt, actionAt, quoteAt, quote, effect, applyOf}
+use Rattle.table.specs.declared.Found.{Found}
+use Rattle.table.specs.declared.Found.the-variants.{At, Nothing}
+use Rattle.table.specs.declared.Board.{Board}
+use Rattle.table.specs.declared.Refusal.the-variants.{Misfit, NoRow, NoQuotes, FixedField, TableFull}
+use Rattle.table.specs.declared.Applied.{Applied}
+use Rattle.table.proofs.Search.{found}
+
+-- ---- a row that is lent
+
+-- the bytes of row k, as they are lent
+abbrev lent : ℕ → List ℕ → List ℕ
+lent k mem = part mem (k * 124) (k * 124 + 124 - k * 124)
+
+abbrev back : ℕ → List ℕ → List ℕ → List ℕ
+back k mem r = putMid (k * 124) (k * 124 + 124 - k * 124) mem r
+
+row-lent : (k : ℕ) (mem : List ℕ) → lent k mem ≡ row k mem
+unfolding row
+row-lent k mem = ap (part mem (k * 124)) {x = k * 124 + 124 - k * 124} {y = 124} (omega arith)
+
+row-back : (k : ℕ) (mem r : List ℕ) → k * 124 + 124 ≤ length mem → length r ≡ k * 124 + 124 - k * 124 → back k mem r ≡ withRow k r mem
+unfolding withRow
+row-back k mem r h e = part-back (k * 124) (k * 124 + 124) mem r (omega arith) h e
+
+module _ (k : ℕ) (mem : List ℕ) (b : Board) (h : k * 124 + 124 ≤ length mem) where
+  written : (f : List ℕ → List ℕ) {r : List ℕ} {a : Applied} → r ≡ f (lent k mem) → length r ≡ k * 124 + 124 - k * 124 → a ≡ taken b
+      → outcome a (back k mem r) ≡ outcome (taken b) (withRow k (f (row k mem)) mem)
+  written f {r} p l e = rw (row-back k mem r h l, e, p, row-lent)
+
+  pub action-taken : (m : TradingAction) {r : List ℕ} {a : Applied} → r ≡ changed (actionChanges m) (lent k mem)
+      → length r ≡ k * 124 + 124 - k * 124 → a ≡ taken b → outcome a (back k mem r) ≡ actionAt b m mem (At k)
+  unfolding actionAt
+  action-taken m f l e = written (changed (actionChanges m)) f l e
+
+  pub quote-denied : (q : Quote) {ok : Bool} {a : Applied} → ok ≡ takesQuote (lent k mem) → ok ≡ false → a ≡ denied NoQuotes b
+      → outcome a mem ≡ quoteAt b q mem (At k)
+  unfolding quoteAt
+  quote-denied q p n e = rw (← row-lent k mem, ← p, n, e)
+
+  pub quote-taken : (q : Quote) {ok : Bool} {r : List ℕ} {a : Applied} → ok ≡ takesQuote (lent k mem) → ok ≡ true
+      → r ≡ changed (quoteChanges q (lent k mem)) (lent k mem) → length r ≡ k * 124 + 124 - k * 124 → a ≡ taken b
+      → outcome a (back k mem r) ≡ quoteAt b q mem (At k)
+  unfolding quoteAt
+  quote-taken q p y f l e = rw (← ap takesQuote (row-lent k mem), ← p, y) (written (λ x. changed (quoteChanges q x) x) f l e)
+
+  module _ (d : Directory) (t : Texts) {ok : Bool} (p : ok ≡ unchanged (d .instrument) t (lent k mem)) where
+    pub relist-denied : {a : Applied} → ok ≡ false → a ≡ denied FixedField b → outcome a mem ≡ directoryAt b d t mem (At k)
+    unfolding directoryAt
+    relist-denied n e = rw (← row-lent k mem, ← p, n, e)
+
+    pub relist-taken : {r : List ℕ} {a : Applied} → ok ≡ true → r ≡ changed (directoryChanges d t) (lent k mem)
+        → length r ≡ k * 124 + 124 - k * 124 → a ≡ taken b → outcome a (back k mem r) ≡ directoryAt b d t mem (At k)
+    unfolding directoryAt
+    relist-taken y f l e = rw (← ap (unchanged (d .instrument) t) (row-lent k mem), ← p, y) (written (changed (directoryChanges d t)) f l e)
+
+module _ (mem : List ℕ) (b : Board) (d : Directory) (t : Texts) where
+  pub add-denied : {a : Applied} → 256 ≤ b .rows → a ≡ denied TableFull b → outcome a mem ≡ directoryAt b d t mem Nothing
+  unfolding directoryAt
+  add-denied n e = rw (le-leb 256 (b .rows) n, e)
+
+  pub add-taken : {r : List ℕ} {a : Applied} → length mem ≡ tableSize → b .rows < 256 → r ≡ newRow d t
+      → length r ≡ b .rows * 124 + 124 - b .rows * 124 → a ≡ taken (oneMore b) → outcome a (back (b .rows) mem r) ≡ directoryAt b d t mem Nothing
+  unfolding directoryAt
+  add-taken {r} s h f l e = rw (lt-leb 256 (b .rows) h, row-back (b .rows) mem r (omega arith) l, f, e)
+
+-- ---- by what is found
+
+-- a row that is found lies in the memory
+pub found-fits : (mem : List ℕ) (rows id k : ℕ) {w : Found} → (length mem ≡ tableSize) × (rows ≤ mostRows) → w ≡ rowFor rows mem id → w ≡ At k
+    → k * 124 + 124 ≤ length mem
+found-fits mem rows id k s p e = let h = found rows mem id k (sym p ∙ e) in omega (arith, h .below, s .0, s .1)
+
+module _ (mem : List ℕ) (b : Board) {w : Found} {a : Applied} {zs : List ℕ} where
+  pub directory-found : (d : Directory) (t : Texts) (w′ : Found) → w ≡ rowFor (b .rows) mem (d .instrument .id) → w ≡ w′
+      → outcome a zs ≡ directoryAt b d t mem w′ → outcome a zs ≡ directoryAt b d t mem (rowFor (b .rows) mem (d .instrument .id))
+  directory-found d t w′ p e f = rw (← p, e) f
+
+  pub action-found : (m : TradingAction) (w′ : Found) → w ≡ rowFor (b .rows) mem (m .id) → w ≡ w′
+      → outcome a zs ≡ actionAt b m mem w′ → outcome a zs ≡ actionAt b m mem (rowFor (b .rows) mem (m .id))
+  action-found m w′ p e f = rw (← p, e) f
+
+  pub quote-found : (q : Quote) (w′ : Found) → w ≡ rowFor (b .rows) mem (q .id) → w ≡ w′
+      → outcome a zs ≡ quoteAt b q mem w′ → outcome a zs ≡ quote b q mem
+  unfolding quote
+  quote-found q w′ p e f = rw (← p, e) f
+
+module _ (mem : List ℕ) (b : Board) {w : Found} {a : Applied} where
+  pub quote-none : (q : Quote) → w ≡ rowFor (b .rows) mem (q .id) → w ≡ Nothing → a ≡ denied NoRow b → outcome a mem ≡ quote b q mem
+  unfolding quote quoteAt
+  quote-none q p e f = rw (← p, e, f)
+
+  pub action-none : (m : TradingAction) → w ≡ rowFor (b .rows) mem (m .id) → w ≡ Nothing → a ≡ denied NoRow b
+      → outcome a mem ≡ actionAt b m mem (rowFor (b .rows) mem (m .id))
+  unfolding actionAt
+  action-none m p e f = rw (← p, e, f)
+
+-- ---- starting
+
+module _ (mem : List ℕ) {f : Board} {a : Applied} (fresh : f ≡ freshBoard) where
+  pub start-misfit : (length mem ≡ 31744 → ⊥) → a ≡ denied Misfit f → outcome a mem ≡ startOf mem
+  unfolding startOf
+  start-misfit n e = rw (ne-eqb (length mem) 31744 n, e, fresh)
+
+  pub start-clear : {zs : List ℕ} → length mem ≡ 31744 → zs ≡ overlay mem 0 (replicate 31744 0) → a ≡ taken f → outcome a zs ≡ startOf mem
+  unfolding startOf
+  start-clear {zs} y g e =
+      let z : zs ≡ replicate (length mem) 0
+      = g ∙ ap (λ (n : ℕ). overlay mem 0 (replicate n 0)) (sym y) ∙ overlay-whole mem (replicate (length mem) 0) (length-replicate {A = ℕ} (length mem) 0) in
+      rw (eq-eqb (length mem) 31744 y, e, fresh, z)
+
+-- ---- applying
+
+module _ (b : Board) (m : Message) (t : Texts) (mem : List ℕ) {a : Applied} where
+  pub apply-misfit : (length mem ≡ 31744 → ⊥) → a ≡ denied Misfit b → outcome a mem ≡ applyOf b m t mem
+  unfolding applyOf fits
+  apply-misfit n e = rw (ne-eqb (length mem) 31744 n, e)
+
+  pub apply-many : length mem ≡ 31744 → 256 < b .rows → a ≡ denied Misfit b → outcome a mem ≡ applyOf b m t mem
+  unfolding applyOf fits
+  apply-many y n e = rw (eq-eqb (length mem) 31744 y, lt-leb (b .rows) 256 n, e)
+
+  pub apply-does : {zs : List ℕ} → length mem ≡ 31744 → b .rows ≤ 256 → outcome a zs ≡ effect b m t mem → outcome a zs ≡ applyOf b m t mem
+  unfolding applyOf fits
+  apply-does y h e = rw (eq-eqb (length mem) 31744 y, le-leb (b .rows) 256 h) e
+
+-- by the kind of a message
+module _ (b : Board) (t : Texts) (mem : List ℕ) {m : Message} {a : Applied} where
+  pub event-told : (e : SystemEvent) {b′ : Board} → m ≡ message.SystemEvent e → b′ ≡ withEvent (e .code) b → a ≡ taken b′ → outcome a mem ≡ effect b m t mem
+  unfolding effect
+  event-told e i p f = rw (i, f, p)
+
+  pub live-told : (e : EndOfReplay) {b′ : Board} → m ≡ message.EndOfReplay e → b′ ≡ withLive (e .number) b → a ≡ taken b′ → outcome a mem ≡ effect b m t mem
+  unfolding effect
+  live-told e i p f = rw (i, f, p)
+
+  -- the message is another, whose effect is told
+  pub told : (m′ : Message) {zs : List ℕ} → m ≡ m′ → outcome a zs ≡ effect b m′ t mem → outcome a zs ≡ effect b m t mem
+  told m′ i f = rw i f
+
+  -- and so with a quote of any of the six letters
+  pub quote-told : (m′ : Message) (q′ : Quote) {q : Quote} {zs : List ℕ} → m ≡ m′ → effect b m′ t mem ≡ quote b q′ mem → q ≡ q′
+      → outcome a zs ≡ quote b q mem → outcome a zs ≡ effect b m t mem
+  quote-told m′ q′ i g p f = rw (i, g, ← p) f

@@ -1,0 +1,4 @@
+pub mod Memory
+pub mod Board
+pub mod Places
+pub mod Rules
