@@ -1,0 +1,200 @@
+-- The ways through the code: pieces of text, each put where the one before it ends, make a line.
+-- Assumes nothing.
+use mathlib.Core.Path.{_≡_, refl, sym, ap, _∙_}
+use mathlib.Core.Bool.{Bool, true, false, cond, _&&_}
+use mathlib.Core.List.{List, [], _∷_, _++_}
+use Prim.Native.Nat.{ℕ, suc, _+_, _-_, _*_, _/_, _≤_, _<_}
+use native.Mathlib.Nat.{div-one, mod-eq-of-lt, zero-add}
+use native.Mathlib.Omega.{arith}
+use borrow.Author.Tests.{eq-eqb, ne-eqb, le-leb, lt-leb}
+use lib.Dec.{eqb, leb, lit<}
+use lib.ListN.{length, length-append}
+use Rattle.field.specs.Bytes.{part, overlay, digits, be, bytesBe}
+use Rattle.field.specs.Decimal.{chars, digitChars, digitCount}
+use Rattle.field.proofs.Parts.{overlay-none, overlay-next, overlay-length, part-whole}
+use Rattle.field.proofs.Decimals.{chars-length}
+use Rattle.message.specs.declared.Side.{Side}
+use Rattle.message.specs.declared.Side.the-variants.{Bid, Ask}
+use Rattle.row.specs.Fields.{rowSize, idOf, stateOf, sidesOf, priceOf, hasSeen}
+use Rattle.table.specs.Memory.{mostRows, tableSize, row}
+use Rattle.listing.specs.Lines.{nextWord, okWord, endWord, refusedWord, lineEnd, nextLine, dash, dollars, stateText, sideText, rowLine, lastLine, lineIn, lineOf}
+use Rattle.listing.specs.declared.Ending.{Ending}
+use Rattle.listing.specs.declared.Ending.the-variants.{RanOut, Ended, Refused}
+
+-- `ys` is put from `at` on, it ends at `r`, and that is no more than so many bytes on
+abbrev pub Put : List ℕ → ℕ → List ℕ → List ℕ → ℕ → ℕ → Type 0
+Put xs at ys zs r most = (zs ≡ overlay xs at ys) × ((r ≡ at + length ys) × (r ≤ at + most))
+
+-- a piece, and then another
+pub put-then : (xs : List ℕ) (at : ℕ) (ys zs : List ℕ) (most more : ℕ) {us vs : List ℕ} {a r : ℕ} → at + (most + more) ≤ length xs
+    → Put xs at ys us a most → Put us a zs vs r more → Put xs at (ys ++ zs) vs r (most + more)
+put-then xs at ys zs most more {us} {vs} {a} {r} h p q =
+    let la : a ≡ at + length ys = p .1 .0 in
+    let lr : r ≡ a + length zs = q .1 .0 in
+    let ma : a ≤ at + most = p .1 .1 in
+    let mr : r ≤ a + more = q .1 .1 in (
+      q .0 ∙ ap (λ (l : List ℕ). overlay l a zs) (p .0) ∙ ap (λ (i : ℕ). overlay (overlay xs at ys) i zs) la ∙ overlay-next xs at ys zs (omega arith),
+      (omega (arith, length-append ys zs), omega arith),
+    )
+
+lengths : (xs : List ℕ) (at : ℕ) (ys : List ℕ) {us : List ℕ} → at + length ys ≤ length xs → us ≡ overlay xs at ys → length us ≡ length xs
+lengths xs at ys h e = ap length e ∙ overlay-length xs at ys h
+
+-- the same piece by another name, and a wider bound
+put-as : (xs : List ℕ) (at : ℕ) {ys ys′ zs : List ℕ} {r r′ most most′ : ℕ} → Put xs at ys zs r most → ys ≡ ys′ → r ≡ r′ → most ≤ most′ → Put xs at ys′ zs r′ most′
+put-as xs at p e f m = (p .0 ∙ ap (overlay xs at) e, (sym f ∙ p .1 .0 ∙ ap (λ (y : List ℕ). at + length y) e, omega (arith, p .1 .1)))
+
+-- ---- pieces
+
+byte : (v : ℕ) → v < 256 → bytesBe 1 v ≡ v ∷ []
+unfolding digits
+byte v h = rw (div-one v, mod-eq-of-lt h)
+
+pub put-byte : (xs : List ℕ) (at v : ℕ) {zs : List ℕ} → v < 256 → zs ≡ overlay xs at (bytesBe 1 v) → Put xs at (v ∷ []) zs (at + 1) 1
+put-byte xs at v h e = (e ∙ ap (overlay xs at) (byte v h), (refl, omega arith))
+
+pub number-put : (xs : List ℕ) (at v : ℕ) {n : ℕ} {zs : List ℕ} → n ≡ digitCount v → n ≤ 20 → zs ≡ overlay xs at (digitChars n v) → Put xs at (chars v) zs (at + n) 20
+unfolding chars
+number-put xs at v {n} {zs} e h p =
+    (p ∙ ap (λ (i : ℕ). overlay xs at (digitChars i v)) e, (omega (arith, chars-length (digitCount v) v), omega arith))
+
+pub dollars-put : (xs : List ℕ) (at price : ℕ) {point : ℕ} {us vs zs : List ℕ} → at + 25 ≤ length xs
+    → Put xs at (chars (price / 10_000)) us point 20 → vs ≡ overlay us point (bytesBe 1 46) → zs ≡ overlay vs (point + 1) (digitChars 4 price)
+    → Put xs at (dollars price) zs (point + 5) 25
+unfolding dollars
+dollars-put xs at price {point} {us} {vs} {zs} h p f g =
+    let l : point ≡ at + length (chars (price / 10_000)) = p .1 .0 in
+    let m : point ≤ at + 20 = p .1 .1 in
+    let n = length-append (chars (price / 10_000)) (46 ∷ digitChars 4 price) in
+    let d : length (digitChars 4 price) ≡ 4 = chars-length 4 price in
+    let u : length us ≡ length xs = lengths xs at (chars (price / 10_000)) (omega arith) (p .0) in
+    let tail : Put us point (46 ∷ digitChars 4 price) zs (point + 5) 5
+    = put-then us point (46 ∷ []) (digitChars 4 price) 1 4 (omega arith) (put-byte us point 46 (lit< tt) f) (g, (omega arith, omega arith)) in
+    put-then xs at (chars (price / 10_000)) (46 ∷ digitChars 4 price) 20 5 h p tail
+
+-- ---- a row
+
+pub mark-none : (state : ℕ) → state ≡ 0 → dash ≡ cond (eqb state 0) dash state
+mark-none state e = rw (eq-eqb state 0 e)
+
+pub mark-state : (state : ℕ) → (state ≡ 0 → ⊥) → state ≡ cond (eqb state 0) dash state
+mark-state state e = rw (ne-eqb state 0 e)
+
+pub state-put : (xs : List ℕ) (at : ℕ) (r : List ℕ) {state mark : ℕ} {us zs : List ℕ} → at + 2 ≤ length xs → mark < 256 → state ≡ stateOf r
+    → mark ≡ cond (eqb state 0) dash state → us ≡ overlay xs at (bytesBe 1 32) → zs ≡ overlay us (at + 1) (bytesBe 1 mark)
+    → Put xs at (stateText r) zs (at + 2) 2
+unfolding stateText
+state-put xs at r {state} {mark} {us} {zs} h b e m f g =
+    let t : mark ≡ cond (eqb (stateOf r) 0) dash (stateOf r) = rw e at m in
+    put-as xs at (put-then xs at (32 ∷ []) (mark ∷ []) 1 1 h (put-byte xs at 32 (lit< tt) f) (put-byte us (at + 1) mark b g))
+    (ap (λ (x : ℕ). 32 ∷ x ∷ []) t) (omega arith) (omega arith)
+
+module _ (xs : List ℕ) (at : ℕ) (side : Side) (r : List ℕ) {sides : ℕ} {seen : Bool} {us : List ℕ} (h : at + 26 ≤ length xs) (e : sides ≡ sidesOf r)
+    (s : seen ≡ hasSeen side sides) (f : us ≡ overlay xs at (bytesBe 1 32)) where
+  side-text : (y : Bool) → seen ≡ y → sideText side r ≡ 32 ∷ cond y (dollars (priceOf side r)) (dash ∷ [])
+  unfolding sideText
+  side-text y i = rw (← e, ← s, i)
+
+  pub side-put : {price q : ℕ} {zs : List ℕ} → seen ≡ true → price ≡ priceOf side r → Put us (at + 1) (dollars price) zs q 25 → Put xs at (sideText side r) zs q 26
+  side-put {price} {q} {zs} y p g =
+      put-as xs at (put-then xs at (32 ∷ []) (dollars price) 1 25 h (put-byte xs at 32 (lit< tt) f) g)
+      (ap (λ (x : ℕ). 32 ∷ dollars x) p ∙ sym (side-text true y)) refl (omega arith)
+
+  pub unseen-put : {zs : List ℕ} → seen ≡ false → zs ≡ overlay us (at + 1) (bytesBe 1 45) → Put xs at (sideText side r) zs (at + 2) 26
+  unseen-put {zs} y g =
+      put-as xs at (put-then xs at (32 ∷ []) (45 ∷ []) 1 1 (omega arith) (put-byte xs at 32 (lit< tt) f) (put-byte us (at + 1) 45 (lit< tt) g))
+      (sym (side-text false y)) (omega arith) (omega arith)
+
+pub row-put : (xs r : List ℕ) {id a b c d : ℕ} {s t u v zs : List ℕ} → 80 ≤ length xs → id ≡ idOf r → Put xs 0 (chars id) s a 20 → Put s a (stateText r) t b 2
+    → Put t b (sideText Bid r) u c 26 → Put u c (sideText Ask r) v d 26 → zs ≡ overlay v d (bytesBe 1 10)
+    → (zs ≡ overlay xs 0 (rowLine r)) × ((d + 1 ≡ length (rowLine r)) × (d + 1 ≤ 80))
+unfolding rowLine
+row-put xs r {id} {a} {b} {c} {d} {s} {t} {u} {v} {zs} h i p q w x f =
+    let ls : length s ≡ length xs = lengths xs 0 (chars id) (omega (arith, p .1 .0, p .1 .1)) (p .0) in
+    let lt : length t ≡ length xs = lengths s a (stateText r) (omega (arith, p .1 .1, q .1 .0, q .1 .1)) (q .0) ∙ ls in
+    let lu : length u ≡ length xs = lengths t b (sideText Bid r) (omega (arith, p .1 .1, q .1 .1, w .1 .0, w .1 .1)) (w .0) ∙ lt in
+    let z : Put v d lineEnd zs (d + 1) 1 = put-byte v d 10 (lit< tt) f in
+    let four : Put u c (sideText Ask r ++ lineEnd) zs (d + 1) 27 = put-then u c (sideText Ask r) lineEnd 26 1 (omega (arith, p .1 .1, q .1 .1, w .1 .1)) x z in
+    let three = put-then t b (sideText Bid r) (sideText Ask r ++ lineEnd) 26 27 (omega (arith, p .1 .1, q .1 .1)) w four in
+    let two = put-then s a (stateText r) (sideText Bid r ++ (sideText Ask r ++ lineEnd)) 2 53 (omega (arith, p .1 .1)) q three in
+    let one = put-then xs 0 (chars id) (stateText r ++ (sideText Bid r ++ (sideText Ask r ++ lineEnd))) 20 55 (omega arith) p two in
+    let line = put-as xs 0 {most = 75} {most′ = 80} one (ap (λ (x : ℕ). chars x ++ (stateText r ++ (sideText Bid r ++ (sideText Ask r ++ lineEnd)))) i) refl (omega arith) in
+    (line .0, (line .1 .0 ∙ zero-add (length (rowLine r)), omega (arith, line .1 .1)))
+
+-- ---- the other lines
+
+-- a word, and then what follows it
+word-put : (xs word : List ℕ) {us : List ℕ} → us ≡ overlay xs 0 (part word 0 (length word)) → length word ≤ 8 → Put xs 0 word us (length word) 8
+word-put xs word e h = (e ∙ ap (overlay xs 0) (part-whole word (length word) refl), (sym (zero-add (length word)), omega arith))
+
+module _ (xs word : List ℕ) {us : List ℕ} (h : 80 ≤ length xs) (short : length word ≤ 8) (e : us ≡ overlay xs 0 (part word 0 (length word))) where
+  pub number-line : (v : ℕ) {end : ℕ} {vs zs : List ℕ} → Put us (length word) (chars v) vs end 20 → zs ≡ overlay vs end (bytesBe 1 10)
+      → (zs ≡ overlay xs 0 (word ++ (chars v ++ lineEnd))) × ((end + 1 ≡ length (word ++ (chars v ++ lineEnd))) × (end + 1 ≤ 80))
+  number-line v {end} {vs} {zs} f g =
+      let u : length us ≡ length xs = lengths xs 0 word (omega arith) (word-put xs word e short .0) in
+      let rest = put-then us (length word) (chars v) lineEnd 20 1 (omega arith) f (put-byte vs end 10 (lit< tt) g) in
+      let line = put-then xs 0 word (chars v ++ lineEnd) 8 21 (omega arith) (word-put xs word e short) rest in
+      (line .0, (line .1 .0 ∙ zero-add (length (word ++ (chars v ++ lineEnd))), omega (arith, line .1 .1)))
+
+  pub word-line : {zs : List ℕ} → zs ≡ overlay us (length word) (bytesBe 1 10)
+      → (zs ≡ overlay xs 0 (word ++ lineEnd)) × ((length word + 1 ≡ length (word ++ lineEnd)) × (length word + 1 ≤ 80))
+  word-line {zs} g =
+      let line = put-then xs 0 word lineEnd 8 1 (omega arith) (word-put xs word e short) (put-byte us (length word) 10 (lit< tt) g) in
+      (line .0, (line .1 .0 ∙ zero-add (length (word ++ lineEnd)), omega (arith, line .1 .1)))
+
+-- ---- which line
+
+-- an answer that is the line that is asked for
+abbrev Line : List ℕ → List ℕ → List ℕ → ℕ → Type 0
+Line xs ys zs r = (zs ≡ overlay xs 0 ys) × ((r ≡ length ys) × (r ≤ 80))
+
+pub line-as : (xs : List ℕ) (ys ys′ : List ℕ) {zs : List ℕ} {r : ℕ} → ys ≡ ys′ → Line xs ys zs r → Line xs ys′ zs r
+line-as xs ys ys′ e p = (p .0 ∙ ap (overlay xs 0) e, (p .1 .0 ∙ ap length e, p .1 .1))
+
+pub no-line : (xs : List ℕ) (ys : List ℕ) → [] ≡ ys → Line xs ys xs 0
+no-line xs ys e = line-as xs [] ys e (sym (overlay-none xs 0), (refl, omega arith))
+
+module _ (k next rows : ℕ) (mem : List ℕ) (ending : Ending) where
+  pub line-next : k ≡ 0 → nextLine next ≡ lineIn k next rows mem ending
+  unfolding lineIn
+  line-next e = rw (eq-eqb k 0 e)
+
+  pub line-row : (k ≡ 0 → ⊥) → k ≤ rows → rowLine (part mem ((k - 1) * 124) ((k - 1) * 124 + 124 - (k - 1) * 124)) ≡ lineIn k next rows mem ending
+  unfolding lineIn row
+  line-row n h =
+      let e : (k - 1) * 124 + 124 - (k - 1) * 124 ≡ 124 = omega arith in
+      rw (ne-eqb k 0 n, le-leb k rows h, e)
+
+  pub line-last : (k ≡ 0 → ⊥) → rows < k → k ≡ rows + 1 → lastLine ending ≡ lineIn k next rows mem ending
+  unfolding lineIn
+  line-last n h e = rw (ne-eqb k 0 n, lt-leb k rows h, eq-eqb k (rows + 1) e)
+
+  pub line-none : (k ≡ 0 → ⊥) → rows < k → (k ≡ rows + 1 → ⊥) → [] ≡ lineIn k next rows mem ending
+  unfolding lineIn
+  line-none n h e = rw (ne-eqb k 0 n, lt-leb k rows h, ne-eqb k (rows + 1) e)
+
+  pub misfit-none : (length mem ≡ 31744 → ⊥) → [] ≡ lineOf k next rows mem ending
+  unfolding lineOf
+  misfit-none n = rw (ne-eqb (length mem) 31744 n)
+
+  pub many-none : length mem ≡ 31744 → 256 < rows → [] ≡ lineOf k next rows mem ending
+  unfolding lineOf
+  many-none y n = rw (eq-eqb (length mem) 31744 y, lt-leb rows 256 n)
+
+  pub line-fits : length mem ≡ 31744 → rows ≤ 256 → lineIn k next rows mem ending ≡ lineOf k next rows mem ending
+  unfolding lineOf
+  line-fits y h = rw (eq-eqb (length mem) 31744 y, le-leb rows 256 h)
+
+-- the last line, by how the input ended
+module _ (ending : Ending) where
+  pub last-ok : ending ≡ RanOut → okWord ++ lineEnd ≡ lastLine ending
+  unfolding lastLine
+  last-ok e = rw e
+
+  pub last-end : ending ≡ Ended → endWord ++ lineEnd ≡ lastLine ending
+  unfolding lastLine
+  last-end e = rw e
+
+  pub last-refused : (n : ℕ) → ending ≡ Refused n → refusedWord ++ (chars n ++ lineEnd) ≡ lastLine ending
+  unfolding lastLine
+  last-refused n e = rw e

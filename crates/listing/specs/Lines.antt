@@ -1,0 +1,85 @@
+-- The listing's lines.
+-- Assumes nothing.
+use Prim.Native.Nat.{ℕ, zero, suc, _+_, _-_, _/_}
+use mathlib.Core.Bool.{Bool, _&&_, cond}
+use mathlib.Core.List.{List, [], _∷_, _++_}
+use lib.Dec.{eqb, leb}
+use lib.ListN.{length}
+use Rattle.field.specs.Decimal.{chars, digitChars}
+use Rattle.message.specs.declared.Side.{Side}
+use Rattle.message.specs.declared.Side.the-variants.{Bid, Ask}
+use Rattle.row.specs.Fields.{idOf, stateOf, sidesOf, priceOf, hasSeen}
+use Rattle.table.specs.Memory.{mostRows, tableSize, row}
+use Rattle.listing.specs.declared.Ending.{Ending}
+use Rattle.listing.specs.declared.Ending.the-variants.{RanOut, Ended, Refused}
+
+-- ---- the words
+
+-- `next `
+abbrev pub nextWord : List ℕ
+nextWord = 110 ∷ 101 ∷ 120 ∷ 116 ∷ 32 ∷ []
+
+-- `ok`
+abbrev pub okWord : List ℕ
+okWord = 111 ∷ 107 ∷ []
+
+-- `end`
+abbrev pub endWord : List ℕ
+endWord = 101 ∷ 110 ∷ 100 ∷ []
+
+-- `refused `
+abbrev pub refusedWord : List ℕ
+refusedWord = 114 ∷ 101 ∷ 102 ∷ 117 ∷ 115 ∷ 101 ∷ 100 ∷ 32 ∷ []
+
+abbrev pub lineEnd : List ℕ
+lineEnd = 10 ∷ []
+
+-- ---- `next N`
+
+unfoldable pub nextLine : ℕ → List ℕ
+nextLine next = nextWord ++ (chars next ++ lineEnd)
+
+-- ---- a row: id, state or `-`, bid, ask, an unseen side as `-`
+
+abbrev pub dash : ℕ
+dash = 45
+
+-- in dollars with four decimals
+unfoldable pub dollars : ℕ → List ℕ
+dollars price = chars (price / 10_000) ++ (46 ∷ digitChars 4 price)
+
+unfoldable pub stateText : List ℕ → List ℕ
+stateText r = 32 ∷ cond (eqb (stateOf r) 0) dash (stateOf r) ∷ []
+
+unfoldable pub sideText : Side → List ℕ → List ℕ
+sideText side r = 32 ∷ cond (hasSeen side (sidesOf r)) (dollars (priceOf side r)) (dash ∷ [])
+
+unfoldable pub rowLine : List ℕ → List ℕ
+rowLine r = chars (idOf r) ++ (stateText r ++ (sideText Bid r ++ (sideText Ask r ++ lineEnd)))
+
+-- ---- the last line: input ran out, even inside a packet; Z or J; a refusal
+
+unfoldable pub lastLine : Ending → List ℕ
+lastLine RanOut = okWord ++ lineEnd
+lastLine Ended = endWord ++ lineEnd
+lastLine (Refused n) = refusedWord ++ (chars n ++ lineEnd)
+
+-- ---- the listing, line by line: line 0 is the next number, then a line for each row, then the last
+
+unfoldable pub lineIn : ℕ → ℕ → ℕ → List ℕ → Ending → List ℕ
+lineIn k next rows mem ending =
+    cond (eqb k 0) (nextLine next)
+    (cond (leb k rows) (rowLine (row (k - 1) mem)) (cond (eqb k (rows + 1)) (lastLine ending) []))
+
+-- memory that is no table has no lines
+unfoldable pub lineOf : ℕ → ℕ → ℕ → List ℕ → Ending → List ℕ
+lineOf k next rows mem ending =
+    cond (eqb (length mem) tableSize && leb rows mostRows) (lineIn k next rows mem ending) []
+
+-- the first n lines
+unfoldable pub linesOf : ℕ → ℕ → ℕ → List ℕ → Ending → List ℕ
+linesOf zero next rows mem ending = []
+linesOf (suc n) next rows mem ending = linesOf n next rows mem ending ++ lineOf n next rows mem ending
+
+unfoldable pub listingOf : ℕ → ℕ → List ℕ → Ending → List ℕ
+listingOf next rows mem ending = linesOf (rows + 2) next rows mem ending
