@@ -8,7 +8,7 @@ use native.Mathlib.Nat.{div-one, mod-eq-of-lt, zero-add}
 use native.Mathlib.Omega.{arith}
 use borrow.Author.Tests.{eq-eqb, ne-eqb, le-leb, lt-leb}
 use lib.Dec.{eqb, leb, lit<}
-use lib.ListN.{length, length-append}
+use lib.ListN.{length, length-append, replicate}
 use Rattle.field.specs.Bytes.{part, overlay, digits, be, bytesBe}
 use Rattle.field.specs.Decimal.{chars, digitChars, digitCount}
 use Rattle.field.proofs.Parts.{overlay-none, overlay-next, overlay-length, part-whole}
@@ -17,7 +17,8 @@ use Rattle.message.specs.declared.Side.{Side}
 use Rattle.message.specs.declared.Side.the-variants.{Bid, Ask}
 use Rattle.row.specs.Fields.{rowSize, idOf, stateOf, sidesOf, priceOf, hasSeen}
 use Rattle.table.specs.Memory.{mostRows, tableSize, row}
-use Rattle.listing.specs.Lines.{nextWord, okWord, endWord, refusedWord, lineEnd, nextLine, dash, dollars, stateText, sideText, rowLine, lastLine, lineIn, lineOf}
+use Rattle.listing.specs.Lines.{nextWord, okWord, endWord, refusedWord, lineEnd, nextLine, dash, dollars, stateText, sideText, rowLine, lastLine, lineIn, lineOf, lineWith}
+use Rattle.listing.specs.declared.Text.{Text}
 use Rattle.listing.specs.declared.Ending.{Ending}
 use Rattle.listing.specs.declared.Ending.the-variants.{RanOut, Ended, Refused}
 
@@ -150,6 +151,10 @@ Line xs ys zs r = (zs ≡ overlay xs 0 ys) × ((r ≡ length ys) × (r ≤ 80))
 
 pub line-as : (xs : List ℕ) (ys ys′ : List ℕ) {zs : List ℕ} {r : ℕ} → ys ≡ ys′ → Line xs ys zs r → Line xs ys′ zs r
 line-as xs ys ys′ e p = (p .0 ∙ ap (overlay xs 0) e, (p .1 .0 ∙ ap length e, p .1 .1))
+
+-- the answer that holds it
+pub line-made : (ys zs : List ℕ) {r : ℕ} → Line (replicate 80 0) ys zs r → (_≡_ {A = Text} (record { text = zs; size = r }) (lineWith ys)) × (r ≤ 80)
+line-made ys zs p = (rw (p .0, p .1 .0), p .1 .1)
 
 pub no-line : (xs : List ℕ) (ys : List ℕ) → [] ≡ ys → Line xs ys xs 0
 no-line xs ys e = line-as xs [] ys e (sym (overlay-none xs 0), (refl, omega arith))

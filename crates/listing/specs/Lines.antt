@@ -4,12 +4,14 @@ use Prim.Native.Nat.{ℕ, zero, suc, _+_, _-_, _/_}
 use mathlib.Core.Bool.{Bool, _&&_, cond}
 use mathlib.Core.List.{List, [], _∷_, _++_}
 use lib.Dec.{eqb, leb}
-use lib.ListN.{length}
+use lib.ListN.{length, replicate}
+use Rattle.field.specs.Bytes.{overlay}
 use Rattle.field.specs.Decimal.{chars, digitChars}
 use Rattle.message.specs.declared.Side.{Side}
 use Rattle.message.specs.declared.Side.the-variants.{Bid, Ask}
 use Rattle.row.specs.Fields.{idOf, stateOf, sidesOf, priceOf, hasSeen}
 use Rattle.table.specs.Memory.{mostRows, tableSize, row}
+use Rattle.listing.specs.declared.Text.{Text}
 use Rattle.listing.specs.declared.Ending.{Ending}
 use Rattle.listing.specs.declared.Ending.the-variants.{RanOut, Ended, Refused}
 
@@ -75,6 +77,10 @@ lineIn k next rows mem ending =
 unfoldable pub lineOf : ℕ → ℕ → ℕ → List ℕ → Ending → List ℕ
 lineOf k next rows mem ending =
     cond (eqb (length mem) tableSize && leb rows mostRows) (lineIn k next rows mem ending) []
+
+-- a line as it is handed out: with zeros behind it, and its length
+abbrev pub lineWith : List ℕ → Text
+lineWith ys = record { text = overlay (replicate 80 0) 0 ys; size = length ys }
 
 -- the first n lines
 unfoldable pub linesOf : ℕ → ℕ → ℕ → List ℕ → Ending → List ℕ

@@ -11,10 +11,16 @@ ghost use Rattle.field.specs.Bytes.{overlay};
 ghost use Rattle.field.specs.Decimal.{chars};
 ghost use Rattle.row.specs.Fields.{rowSize};
 ghost use Rattle.table.specs.Memory.{mostRows, tableSize};
-ghost use Rattle.listing.specs.Lines.{lineEnd, nextLine, dash, dollars, stateText, sideText, rowLine, lastLine, lineIn, lineOf};
+ghost use Rattle.listing.specs.Lines.{lineEnd, nextLine, dash, dollars, stateText, sideText, rowLine, lastLine, lineIn, lineOf, lineWith};
 
 // No line is longer.
 pub const LINE_SIZE: usize = 80;
+
+// A line, and zeros behind it.
+pub struct Text {
+    pub text: [u8; LINE_SIZE],
+    pub size: usize,
+}
 
 // How the input ended.
 pub enum Ending {
@@ -167,23 +173,17 @@ fn some_line(
     0
 }
 
-// Line k of the listing, at the start of `out`, and its length; 0 where there is no such line.
-pub fn line(
-    k: usize,
-    next: u64,
-    rows: usize,
-    table: &[u8],
-    ending: Ending,
-    out: &mut [u8; 80],
-) -> usize
-    ensures { λ r. ⌜ now (out .exit) ≡ overlay (now (out .entry)) 0 (lineOf k next rows (now (table .entry)) ending) ⌝ }
-    ensures { λ r. ⌜ (r ≡ length (lineOf k next rows (now (table .entry)) ending)) × (r ≤ 80) ⌝ }
+// Line k of the listing; one of no length where there is no such line.
+pub fn line(k: usize, next: u64, rows: usize, table: &[u8], ending: Ending) -> Text
+    ensures { λ r. ⌜ (r ≡ lineWith (lineOf k next rows (now (table .entry)) ending)) × (r .size ≤ 80) ⌝ }
 {
+    let mut text = [0; LINE_SIZE];
     if table.len() != table::TABLE_SIZE {
-        return 0;
+        return Text { text, size: 0 };
     }
     if table::MOST_ROWS < rows {
-        return 0;
+        return Text { text, size: 0 };
     }
-    some_line(k, next, rows, table, ending, out)
+    let size = some_line(k, next, rows, table, ending, &mut text);
+    Text { text, size }
 }
