@@ -1,0 +1,3 @@
+pub mod Joins
+pub mod Checks
+pub mod Blocks

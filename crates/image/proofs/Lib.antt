@@ -1,0 +1,14 @@
+pub mod Below
+pub mod Laid
+pub mod Walk
+pub mod Beside
+pub mod Puts
+pub mod Judged
+pub mod Ways
+pub mod Zeros
+pub mod Back
+pub mod Again
+pub mod Rounds
+pub mod Verdicts
+pub mod Made
+pub mod Fresh

@@ -1,0 +1,4 @@
+pub mod Shape
+pub mod Header
+pub mod Save
+pub mod Restore

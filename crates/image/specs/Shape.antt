@@ -1,0 +1,61 @@
+-- The shape of a saved table: how many blocks it has, their heads, and the pages of rows in them.
+-- Assumes nothing.
+use Prim.Native.Nat.{ℕ, zero, suc, _+_, _-_, _*_, _/_, _%_, _≤_, _<_}
+use mathlib.Core.Bool.{Bool, true, _&&_}
+use mathlib.Core.List.{List, [], _++_}
+use lib.ListN.{length}
+use Rattle.field.specs.Bytes.{part}
+use Rattle.block.specs.Block.{blockSize, headSize, bodySize}
+use Rattle.block.specs.declared.Head.{Head}
+use Rattle.row.specs.Fields.{rowSize}
+
+-- ---- the count
+
+-- each block after the first holds four rows, at 14, 138, 262 and 386: its body is a page of table memory
+abbrev pub pageRows : ℕ
+pageRows = 4
+
+-- rows / 4, rounded up
+unfoldable pub pagesFor : ℕ → ℕ
+pagesFor rows = (rows + (pageRows - 1)) / pageRows
+
+-- the count is 1 plus that
+unfoldable pub blocksFor : ℕ → ℕ
+blocksFor rows = 1 + pagesFor rows
+
+abbrev pub mostBlocks : ℕ
+mostBlocks = 65
+
+-- ---- the heads
+
+-- version 1
+unfoldable pub versionFor : ℕ → ℕ
+versionFor rows = 1
+
+-- the head of block k among so many, of a table of so many rows
+unfoldable pub headFor : ℕ → ℕ → ℕ → ℕ → Head
+headFor count rows next k = record { number = k; count = count; version = versionFor rows; next = next }
+
+-- ---- the pages
+
+-- n pages, the first at `base` and each `stride` bytes after the one before it, joined
+unfoldable pub pages : List ℕ → ℕ → ℕ → ℕ → List ℕ
+pages bs base stride zero = []
+pages bs base stride (suc n) = pages bs base stride n ++ part bs (base + n * stride) bodySize
+
+-- they lie within the bytes
+abbrev pub PagesIn : List ℕ → ℕ → ℕ → ℕ → Type 0
+PagesIn bs base stride n = (k : ℕ) → k < n → base + k * stride + bodySize ≤ length bs
+
+-- where row k of such pages stands
+unfoldable pub placeOf : ℕ → ℕ → ℕ → ℕ
+placeOf base stride k = base + k / pageRows * stride + k % pageRows * rowSize
+
+-- in an image the first page is the body of block 1
+abbrev pub firstPage : ℕ
+firstPage = blockSize + headSize
+
+-- ---- every number below n passes the test
+unfoldable pub allBelow : (ℕ → Bool) → ℕ → Bool
+allBelow p zero = true
+allBelow p (suc n) = allBelow p n && p n
