@@ -1,0 +1,125 @@
+-- DEMAND 3, FIRST HALF: any caller, any cuts. Steps that keep their promise tell what the reading of the uncut bytes tells.
+-- Assumes nothing.
+use mathlib.Core.Path.{_≡_, refl, sym, ap, _∙_, subst}
+use mathlib.Core.Logic.{inr}
+use mathlib.Core.List.{List, [], _++_}
+use mathlib.Core.Bool.{Bool, true, false, cond}
+use Prim.Native.Nat.{ℕ}
+use native.Mathlib.Omega.{arith}
+use borrow.Author.Tests.{eqb-true, eq-eqb}
+use lib.Dec.{eqb}
+use lib.ListN.{length, drop, replicate, length-replicate}
+use Rattle.field.specs.Bytes.{Bytes}
+use Rattle.message.specs.Letters.{listed}
+use Rattle.packet.specs.Frame.{short, frame}
+use Rattle.packet.specs.Stream as stream
+use Rattle.packet.specs.Stream.{State, live, Unfinished, NothingLeft, reading, eventsOf, Called}
+use Rattle.packet.specs.Session.{Session, Event, soupBinTCP}
+use Rattle.packet.proofs.Step.{any-caller}
+use Rattle.table.specs.Memory.{tableSize}
+use Rattle.table.specs.Board.{Outcome, accepted, refused, freshBoard, startOf}
+use Rattle.table.specs.Rules.{Sound, boardKeeps}
+use Rattle.table.specs.declared.Refusal.the-variants.{Misfit}
+use Rattle.table.proofs.Kept.{start-sound}
+use Rattle.reader.specs.Refusals.{standing}
+use Rattle.reader.specs.Deliver.{Table, Said, deliver}
+use Rattle.reader.specs.View.{stateOf, Seen, heldIn}
+use Rattle.reader.specs.Calls.{Begun, begunOf, freshOn, verdictNumber, startNumber, startAll, Starting}
+use Rattle.reader.specs.declared.StartAnswer.the-variants.{Ready}
+use Rattle.reader.specs.declared.Reader.{Reader}
+use Rattle.reader.specs.declared.Stepped.{Stepped}
+use Rattle.reader.specs.declared.Started.{Started}
+use Rattle.demands.specs.Callers.{Steps, stop, step}
+use Rattle.demands.specs.Sound.{begin, SoundSession, Ours}
+use Rattle.demands.proofs.Bytes.{bytes-none, bytes-append, bytes-left, bytes-right, bytes-drop}
+use Rattle.demands.proofs.Kept.{Kept, ours-kept, kept-ours, ours-within, stepping-is, step-ours}
+
+-- ---- steps
+
+-- the bytes that come next after a step
+next-bytes : (piece more : List ℕ) (n : ℕ) → Bytes (piece ++ more) → Bytes (drop n piece ++ more)
+next-bytes piece more n b = bytes-append (drop n piece) more (bytes-drop n piece (bytes-left piece more b)) (bytes-right piece more b)
+
+-- the steps of the code are calls of the definitions
+pub steps-called : {r r′ : Reader} {t bs t′ left : List ℕ} {es : List (Event Said)} → Steps r t bs es r′ t′ left → Ours r t → Bytes bs
+    → Called (soupBinTCP deliver) (stateOf r t) bs es (stateOf r′ t′) left
+steps-called stop o b = stream.stop
+steps-called (step {r = r} {r′ = r′} {t = t} {t″ = t″} {left = left} {es = es} piece more s t′ h c) o b =
+    subst
+    (λ (q : stream.Stepped (Session Table) (Event Said)).
+    Called (soupBinTCP deliver) (q .state) (drop (q .taken) piece ++ more) es (stateOf r′ t″) left
+    → Called (soupBinTCP deliver) (stateOf r t) (piece ++ more) (eventsOf (q .answer) ++ es) (stateOf r′ t″) left)
+    (sym (ap (λ (q : Seen). q .step) (stepping-is r t piece s t′ (ours-within r t o) h)))
+    (stream.call piece more)
+    (steps-called c (step-ours r t piece s t′ o (bytes-left piece more b) h) (next-bytes piece more (s .taken) b))
+
+-- THEOREM: steps of what is ours, with any bytes, leave what is ours
+pub steps-ours : {r r′ : Reader} {t bs t′ left : List ℕ} {es : List (Event Said)} → Steps r t bs es r′ t′ left → Ours r t → Bytes bs → Ours r′ t′
+steps-ours stop o b = o
+steps-ours (step {r = r} {t = t} piece more s t′ h c) o b =
+    steps-ours c (step-ours r t piece s t′ o (bytes-left piece more b) h) (next-bytes piece more (s .taken) b)
+
+unfinished-in : (st : State (Session Table)) → frame (heldIn st) ≡ short → Unfinished st
+unfinished-in (live s held) h = h
+unfinished-in (stream.ended s held) h = tt
+unfinished-in (stream.refused s held e n) h = tt
+
+-- the steps of a reader of ours that is given every byte, or has ended or refused
+pub steps-read : {r r′ : Reader} {t bs t′ left : List ℕ} {es : List (Event Said)} → Steps r t bs es r′ t′ left → Ours r t → Bytes bs
+    → NothingLeft (stateOf r′ t′) left → reading (soupBinTCP deliver) (stateOf r t) bs ≡ record { events = es; state = stateOf r′ t′ }
+steps-read {r = r} {t = t} c o b none =
+    any-caller (soupBinTCP deliver) (steps-called c o b) (unfinished-in (stateOf r t) (ours-kept r t o .short)) none
+
+-- ---- from the start
+
+zeros-sound : (n : ℕ) → n ≡ tableSize → Sound (freshBoard .rows) (replicate n 0)
+unfolding startOf
+zeros-sound n h =
+    let l : length {A = ℕ} (replicate n 0) ≡ n = length-replicate n 0 in
+    start-sound (replicate n 0) (replicate n 0) freshBoard (rw (eq-eqb (length {A = ℕ} (replicate n 0)) tableSize (l ∙ h), l))
+
+begin-sound : SoundSession begin
+unfolding boardKeeps listed
+begin-sound =
+    record {
+      range = record { some = omega arith; most = omega arith };
+      about = record { rows = zeros-sound tableSize refl; board = refl };
+      whose = inr refl;
+    }
+
+-- the code's answer is that the reader is ready: memory was of the right length
+ready : (t : List ℕ) (s : Started) (t′ : List ℕ) → Starting t s t′ → s .answer ≡ Ready → (y : Bool) → eqb (length t) tableSize ≡ y
+    → (o : Outcome) → o ≡ cond y (accepted freshBoard (replicate (length t) 0)) (refused Misfit freshBoard t)
+    → begunOf s t′ ≡ record { state = live (freshOn o) []; used = 0; refusal = verdictNumber (o .applied .verdict) }
+    → (stateOf (s .reader) t′ ≡ live begin []) × (s .reader .used ≡ 0)
+ready t s t′ h a true e o f g =
+    let n : length t ≡ tableSize = eqb-true (length t) tableSize e in
+    (ap (λ (q : Begun). q .state) g ∙ rw (f, n), ap (λ (q : Begun). q .used) g)
+ready t s t′ h a false e o f g =
+    let z : startNumber (s .answer) ≡ 20 = ap (λ (q : Begun). q .refusal) g ∙ rw f in
+    let w : _≡_ {A = ℕ} 0 20 = ap startNumber (sym a) ∙ z in
+    absurd (omega arith)
+
+module _ (t : List ℕ) (s : Started) (t₁ : List ℕ) (h : Starting t s t₁) (a : s .answer ≡ Ready) where
+  pub started : (stateOf (s .reader) t₁ ≡ live begin []) × (s .reader .used ≡ 0)
+  unfolding startAll startOf
+  started = ready t s t₁ h a (eqb (length t) tableSize) refl (startOf t) refl h
+
+  -- THEOREM: a reader that was started without refusal is ours
+  pub start-ours : Ours (s .reader) t₁
+  unfolding frame standing
+  start-ours =
+      let k : Kept (live begin []) = record { sound = begin-sound; stands = refl; short = refl; bytes = bytes-none } in
+      kept-ours (s .reader) t₁ (subst Kept (sym (started .0)) k) (omega (arith, started .1))
+
+  -- THEOREM: ANY CALLER, ANY CUTS. Of a reader that was started without refusal, steps that keep their promise, with handle and memory handed on
+  -- untouched and until no byte is left or the reader has ended or refused, tell the events, in order, and leave the reader and the table of the
+  -- reading of the uncut bytes.
+  pub any-cuts : {bs : List ℕ} {es : List (Event Said)} {r : Reader} {t₂ left : List ℕ} → Bytes bs → Steps (s .reader) t₁ bs es r t₂ left
+      → NothingLeft (stateOf r t₂) left → reading (soupBinTCP deliver) (live begin []) bs ≡ record { events = es; state = stateOf r t₂ }
+  any-cuts {bs} b c none =
+      ap (λ (st : State (Session Table)). reading (soupBinTCP deliver) st bs) (sym (started .0)) ∙ steps-read c start-ours b none
+
+  -- THEOREM: what they leave keeps the row rules and the limits of a handle, however many bytes are left
+  pub rules-kept : {bs : List ℕ} {es : List (Event Said)} {r : Reader} {t₂ left : List ℕ} → Bytes bs → Steps (s .reader) t₁ bs es r t₂ left → Ours r t₂
+  rules-kept b c = steps-ours c start-ours b

@@ -1,0 +1,150 @@
+-- EQUAL ANSWERS: two answers that keep the promise of a call agree, but for the places past the held bytes.
+-- Assumes nothing.
+use mathlib.Core.Path.{_≡_, refl, sym, ap, _∙_}
+use mathlib.Core.List.{List}
+use Prim.Native.Nat.{ℕ}
+use borrow.Author.Tests.{eqb-false}
+use Rattle.field.proofs.Answers.{equal-answers}
+use Rattle.packet.specs.Stream as stream
+use Rattle.packet.specs.Session as packets
+use Rattle.packet.specs.Session.{Session, Event}
+use Rattle.reader.specs.Refusals.{refusalNumber, namedIn, named}
+use Rattle.reader.specs.Deliver.{Table, Said}
+use Rattle.reader.specs.View.{eventOf, answerOf, stateOf, Seen, seenOf, heldIn, sessionOf}
+use Rattle.reader.specs.Calls.{Stepping, Starting, Begun, begunOf, startNumber}
+use Rattle.image.specs.Save.{Saving, saving}
+use Rattle.image.specs.declared.Saved.{Saved}
+use Rattle.reader.specs.Saving.{Saves, Came, cameOf, Restores}
+use Rattle.reader.specs.declared.Texts.{Texts}
+use Rattle.reader.specs.declared.Restored.{Restored}
+use Rattle.reader.specs.declared.Refusal.{Refusal}
+use Rattle.reader.specs.declared.Refusal.the-variants as refusal
+use Rattle.reader.specs.declared.Event as code
+use Rattle.reader.specs.declared.Event.the-variants as event
+use Rattle.reader.specs.declared.StepAnswer.{StepAnswer}
+use Rattle.reader.specs.declared.StepAnswer.the-variants as answer
+use Rattle.reader.specs.declared.StartAnswer.{StartAnswer}
+use Rattle.reader.specs.declared.StartAnswer.the-variants as started
+use Rattle.reader.specs.declared.Reader.{Reader}
+use Rattle.reader.specs.declared.Stepped.{Stepped}
+use Rattle.reader.specs.declared.Started.{Started}
+use Rattle.reader.proofs.Ways.{some-number}
+use Rattle.demands.specs.Same.{SameReader, SameStep, SameStart, SameRestore}
+use Rattle.demands.proofs.View.{sessionIn, refusalIn, endedIn, session-of, held-of, ended-of, refusal-of}
+
+-- ---- the code's answer again, from the definition's
+
+-- no two names have one number
+pub name-back : (r : Refusal) → named (refusalNumber r) ≡ r
+unfolding named namedIn
+name-back refusal.Unfit = refl
+name-back refusal.BadPacketLength = refl
+name-back refusal.UnknownPacket = refl
+name-back refusal.WrongPlace = refl
+name-back refusal.BadForm = refl
+name-back refusal.NotNext = refl
+name-back refusal.NumbersUsedUp = refl
+name-back refusal.UnknownMessage = refl
+name-back refusal.WrongLength = refl
+name-back refusal.BadField = refl
+name-back refusal.NoRow = refl
+name-back refusal.NoQuotes = refl
+name-back refusal.FixedField = refl
+name-back refusal.TableFull = refl
+
+abbrev pub eventBack : Event Said → code.Event
+eventBack (packets.login n s) = event.Login n
+eventBack (packets.rejected b) = event.Rejected b
+eventBack (packets.message x) = event.Message (x .message)
+eventBack packets.heartbeat = event.Heartbeat
+eventBack packets.end = event.End
+eventBack packets.skipped = event.Skipped
+
+abbrev pub answerBack : stream.Answer (Event Said) → StepAnswer
+answerBack (stream.Event e) = answer.Event (eventBack e)
+answerBack stream.More = answer.More
+answerBack stream.Ended = answer.Ended
+answerBack (stream.Refused n) = answer.Refused (named n)
+
+event-back : (t : Texts) (e : code.Event) → eventBack (eventOf t e) ≡ e
+event-back t (event.Login n) = refl
+event-back t (event.Rejected b) = refl
+event-back t (event.Message m) = refl
+event-back t event.Heartbeat = refl
+event-back t event.End = refl
+event-back t event.Skipped = refl
+
+pub answer-back : (t : Texts) (a : StepAnswer) → answerBack (answerOf t a) ≡ a
+answer-back t (answer.Event e) = ap answer.Event (event-back t e)
+answer-back t answer.More = refl
+answer-back t answer.Ended = refl
+answer-back t (answer.Refused r) = ap answer.Refused (name-back r)
+
+pub answer-is : (s : Stepped) {a : stream.Answer (Event Said)} → answerOf (s .texts) (s .answer) ≡ a → s .answer ≡ answerBack a
+answer-is s e = sym (answer-back (s .texts) (s .answer)) ∙ ap answerBack e
+
+-- ---- the handle, from its state
+
+pub same-readers : (a b : Reader) (t t′ : List ℕ) → stateOf a t ≡ stateOf b t′ → a .used ≡ b .used → SameReader a b × (t ≡ t′)
+same-readers a b t t′ e u =
+    let inner : sessionOf (a .line) (a .board) t ≡ sessionOf (b .line) (b .board) t′
+    = sym (session-of a t) ∙ ap sessionIn e ∙ session-of b t′ in (
+      record {
+        line = ap (λ (s : Session Table). s .line) inner;
+        board = ap (λ (s : Session Table). s .about .board) inner;
+        ended = sym (ended-of a t) ∙ ap endedIn e ∙ ended-of b t′;
+        refusal = sym (refusal-of a t) ∙ ap refusalIn e ∙ refusal-of b t′;
+        used = u;
+        held = sym (held-of a t) ∙ ap heldIn e ∙ held-of b t′;
+      },
+      ap (λ (s : Session Table). s .about .memory) inner,
+    )
+
+pub same-steps : (a b : Stepped) (t t′ : List ℕ) → seenOf a t ≡ seenOf b t′ → SameStep a b t t′
+same-steps a b t t′ e =
+    let r = same-readers (a .reader) (b .reader) t t′ (ap (λ (q : Seen). q .step .state) e) (ap (λ (q : Seen). q .used) e) in
+    record {
+      reader = r .0;
+      taken = ap (λ (q : Seen). q .step .taken) e;
+      answer =
+          sym (answer-back (a .texts) (a .answer)) ∙ ap (λ (q : Seen). answerBack (q .step .answer)) e ∙ answer-back (b .texts) (b .answer);
+      texts = ap (λ (q : Seen). q .texts) e;
+      memory = r .1;
+    }
+
+-- THEOREM, of a step
+pub equal-steps : (r : Reader) (t piece : List ℕ) (a b : Stepped) (t₁ t₂ : List ℕ) → Stepping r t piece a t₁ → Stepping r t piece b t₂ → SameStep a b t₁ t₂
+equal-steps r t piece a b t₁ t₂ x y = same-steps a b t₁ t₂ (equal-answers x y)
+
+-- ---- of starting
+
+some-name : (r : Refusal) → refusalNumber r ≡ 0 → ⊥
+some-name r = eqb-false (refusalNumber r) 0 (some-number r)
+
+answers-same : (a b : StartAnswer) → startNumber a ≡ startNumber b → a ≡ b
+answers-same started.Ready started.Ready e = refl
+answers-same started.Ready (started.Refused r) e = absurd (some-name r (sym e))
+answers-same (started.Refused r) started.Ready e = absurd (some-name r e)
+answers-same (started.Refused r) (started.Refused q) e = ap started.Refused (sym (name-back r) ∙ ap named e ∙ name-back q)
+
+-- THEOREM, of starting
+pub equal-starts : (t : List ℕ) (a b : Started) (t₁ t₂ : List ℕ) → Starting t a t₁ → Starting t b t₂ → SameStart a b t₁ t₂
+equal-starts t a b t₁ t₂ x y =
+    let e : begunOf a t₁ ≡ begunOf b t₂ = equal-answers x y in
+    let r = same-readers (a .reader) (b .reader) t₁ t₂ (ap (λ (q : Begun). q .state) e) (ap (λ (q : Begun). q .used) e) in
+    record { reader = r .0; answer = answers-same (a .answer) (b .answer) (ap (λ (q : Begun). q .refusal) e); memory = r .1 }
+
+-- ---- of saving and restoring
+
+-- THEOREM, of saving
+pub equal-saves : (r : Reader) (t out : List ℕ) (a b : Saved) (z₁ z₂ : List ℕ) → Saves r t out a z₁ → Saves r t out b z₂ → (a ≡ b) × (z₁ ≡ z₂)
+equal-saves r t out a b z₁ z₂ x y =
+    let e : saving a z₁ ≡ saving b z₂ = equal-answers x y in
+    (ap (λ (s : Saving). s .answer) e, ap (λ (s : Saving). s .out) e)
+
+-- THEOREM, of restoring
+pub equal-restores : (bytes t : List ℕ) (a b : Restored) (t₁ t₂ : List ℕ) → Restores bytes t a t₁ → Restores bytes t b t₂ → SameRestore a b t₁ t₂
+equal-restores bytes t a b t₁ t₂ x y =
+    let e : cameOf a t₁ ≡ cameOf b t₂ = equal-answers x y in
+    let r = same-readers (a .reader) (b .reader) t₁ t₂ (ap (λ (q : Came). q .state) e) (ap (λ (q : Came). q .used) e) in
+    record { reader = r .0; verdict = ap (λ (q : Came). q .verdict) e; memory = r .1 }

@@ -1,0 +1,159 @@
+-- WHAT OUR OWN CALLS MAKE: a step of a handle within its limits, whose session is sound, leaves another such.
+-- Assumes nothing.
+use mathlib.Core.Path.{_≡_, refl, sym, ap, _∙_, subst}
+use mathlib.Core.Logic.{_⊎_, inl, inr}
+use mathlib.Core.List.{List, _++_}
+use mathlib.Core.Bool.{true}
+use Prim.Native.Nat.{ℕ, _-_, _≤_}
+use native.Mathlib.Omega.{arith}
+use borrow.Author.Tests.{le-leb}
+use lib.ListN.{length}
+use Rattle.field.specs.Bytes.{Bytes}
+use Rattle.field.specs.Limits.{highestNumber}
+use Rattle.packet.specs.Frame.{Framed, short, badLength, packet, frame, heldSize}
+use Rattle.packet.specs.Refusals.{faultNumber}
+use Rattle.packet.specs.Stream as stream
+use Rattle.packet.specs.Stream.{State, live, ended, refused, accept, finish, refuse, stepJudged, stepFramed, stepOf}
+use Rattle.packet.specs.Line.{InRange, packetOf}
+use Rattle.packet.specs.Session.{Session, Event, Delivered, done, denied, delivered, does, soupBinTCP}
+use Rattle.packet.specs.declared.Line.{Line}
+use Rattle.packet.specs.declared.Fault.{Fault}
+use Rattle.packet.specs.declared.Fault.the-variants as fault
+use Rattle.packet.specs.declared.Packet.{Packet}
+use Rattle.packet.specs.declared.Packet.the-variants as packets
+use Rattle.packet.proofs.Rules.{never}
+use Rattle.packet.proofs.Frame.{short-fits}
+use Rattle.packet.proofs.Known.{Known, packet-known}
+use Rattle.packet.proofs.Keep.{VerdictHas}
+use Rattle.table.specs.Board.{fits}
+use Rattle.reader.specs.Refusals.{standing}
+use Rattle.reader.specs.Deliver.{Table, tableOf, Said, deliver}
+use Rattle.reader.specs.View.{heldOf, stateOf, Seen, seenOf, seen, heldIn}
+use Rattle.reader.specs.Limits.{unfinished, holdsUnfinished, withinLimits}
+use Rattle.reader.specs.Calls.{stepAll, Stepping}
+use Rattle.reader.specs.declared.Reader.{Reader}
+use Rattle.reader.specs.declared.Stepped.{Stepped}
+use Rattle.demands.specs.Sound.{begin, SoundSession, Ours}
+use Rattle.demands.proofs.Bytes.{bytes-none, bytes-append, frame-bytes}
+use Rattle.demands.proofs.Applied.{Delivers, deliver-kept, sound-fits}
+use Rattle.demands.proofs.View.{sessionIn, refusalIn, session-of, held-of, refusal-of}
+
+-- ---- a packet
+
+abbrev Stands : ℕ → Type 0
+Stands n = standing n ≡ true
+
+pub fault-stands : (f : Fault) → standing (faultNumber f) ≡ true
+unfolding standing
+fault-stands fault.BadLength = refl
+fault-stands fault.UnknownLetter = refl
+fault-stands fault.WrongPlace = refl
+fault-stands fault.BadForm = refl
+fault-stands fault.NotNext = refl
+fault-stands fault.NumbersUsedUp = refl
+
+-- a line that is logged in is not a fresh one
+known-when-logged : (s : Session Table) → s .line .logged ≡ true → (s .line .known ≡ true) ⊎ (s ≡ begin) → s .line .known ≡ true
+known-when-logged s l (inl k) = k
+known-when-logged s l (inr e) = absurd (never (sym (ap (λ (q : Session Table). q .line .logged) e) ∙ l))
+
+delivered-sound : (l : Line) (d : Delivered Table Said) → InRange l → l .known ≡ true → (l .next ≡ highestNumber → ⊥) → Delivers d
+    → VerdictHas SoundSession Stands (delivered l d)
+delivered-sound l (done x t) r k n h =
+    record { range = record { some = omega (arith, r .some); most = omega (arith, n, r .most) }; about = h; whose = inl k }
+delivered-sound l (denied m t) r k n h = (record { range = r; about = h .0; whose = inl k }, h .1)
+
+does-sound : (s : Session Table) (body : List ℕ) (p : Packet) → Bytes body → SoundSession s → Known (s .line) body p
+    → VerdictHas SoundSession Stands (does deliver s body p)
+does-sound s body (packets.Login n) b h k =
+    record { range = record { some = h .range .some; most = h .range .most }; about = h .about; whose = inl refl }
+does-sound s body (packets.Rejected r) b h k = h
+does-sound s body packets.Message b h k =
+    delivered-sound (s .line) (deliver (s .about) body) (h .range) (known-when-logged s (k .0) (h .whose)) (k .1)
+    (deliver-kept (s .about) body b (h .about))
+does-sound s body packets.Heartbeat b h k = h
+does-sound s body packets.End b h k = h
+does-sound s body packets.Skipped b h k = h
+does-sound s body (packets.Refused f) b h k = (h, fault-stands f)
+
+pub packet-sound : (s : Session Table) (letter : ℕ) (body : List ℕ) → Bytes body → SoundSession s
+    → VerdictHas SoundSession Stands (soupBinTCP deliver s letter body)
+unfolding soupBinTCP
+packet-sound s letter body b h = does-sound s body (packetOf (s .line) letter body) b h (packet-known (s .line) body letter)
+
+-- ---- a call
+
+pub record Kept (st : State (Session Table)) : Type 0 where
+  pub sound : SoundSession (sessionIn st)
+  pub stands : standing (refusalIn st) ≡ true
+  pub short : frame (heldIn st) ≡ short
+  pub bytes : Bytes (heldIn st)
+
+judged-kept : (n : ℕ) (v : stream.Verdict (Session Table) (Event Said)) → VerdictHas SoundSession Stands v → Kept (stepJudged n v .state)
+unfolding frame standing
+judged-kept n (accept e s) h = record { sound = h; stands = refl; short = refl; bytes = bytes-none }
+judged-kept n (finish e s) h = record { sound = h; stands = refl; short = refl; bytes = bytes-none }
+judged-kept n (refuse k s) h = record { sound = h .0; stands = h .1; short = refl; bytes = bytes-none }
+
+framed-kept : (s : Session Table) (held piece : List ℕ) (f : Framed) → SoundSession s → Bytes (held ++ piece) → frame (held ++ piece) ≡ f
+    → Kept (stepFramed (soupBinTCP deliver) s held piece f .state)
+unfolding frame standing
+framed-kept s held piece short h b e = record { sound = h; stands = refl; short = e; bytes = b }
+framed-kept s held piece (badLength r) h b e = record { sound = h; stands = refl; short = refl; bytes = bytes-none }
+framed-kept s held piece (packet l body r) h b e =
+    judged-kept (length piece - length r) (soupBinTCP deliver s l body) (packet-sound s l body (frame-bytes (held ++ piece) e b) h)
+
+pub step-kept : (st : State (Session Table)) (piece : List ℕ) → Bytes piece → Kept st → Kept (stepOf (soupBinTCP deliver) st piece .state)
+unfolding stepOf
+step-kept (live s held) piece b k =
+    framed-kept s held piece (frame (held ++ piece)) (k .sound) (bytes-append held piece (k .bytes) b) refl
+step-kept (ended s held) piece b k = k
+step-kept (refused s held e n) piece b k = k
+
+-- ---- the same of a handle
+
+module _ (r : Reader) (t : List ℕ) where
+  pub limits-hold : fits (r .board) t ≡ true → InRange (r .line) → r .used ≤ heldSize → frame (heldOf r) ≡ short → standing (r .refusal) ≡ true
+      → withinLimits r t ≡ true
+  unfolding withinLimits holdsUnfinished unfinished
+  limits-hold f n u h s =
+      rw (f, le-leb 1 (r .line .next) (n .some), le-leb (r .line .next) highestNumber (n .most), le-leb (r .used) heldSize u, h, s)
+
+  pub ours-kept : Ours r t → Kept (stateOf r t)
+  ours-kept o =
+      record {
+        sound = subst SoundSession (sym (session-of r t)) (o .sound);
+        stands = ap standing (refusal-of r t) ∙ o .stands;
+        short = ap frame (held-of r t) ∙ o .short;
+        bytes = subst Bytes (sym (held-of r t)) (o .bytes);
+      }
+
+  pub kept-ours : Kept (stateOf r t) → r .used ≤ heldSize → Ours r t
+  kept-ours k u =
+      record {
+        sound = subst SoundSession (session-of r t) (k .sound);
+        stands = ap standing (sym (refusal-of r t)) ∙ k .stands;
+        used = u;
+        short = ap frame (sym (held-of r t)) ∙ k .short;
+        bytes = subst Bytes (held-of r t) (k .bytes);
+      }
+
+  -- THEOREM: what our own calls make is within the limits of a handle
+  pub ours-within : Ours r t → withinLimits r t ≡ true
+  ours-within o =
+      limits-hold (sound-fits (tableOf (r .board) t) (o .sound .about)) (o .sound .range) (o .used) (o .short) (o .stands)
+
+  -- a step within the limits is the definition's
+  pub stepping-is : (piece : List ℕ) (s : Stepped) (t′ : List ℕ) → withinLimits r t ≡ true → Stepping r t piece s t′
+      → seenOf s t′ ≡ seen (stepOf (soupBinTCP deliver) (stateOf r t) piece)
+  unfolding stepAll
+  stepping-is piece s t′ e h = rw e at h
+
+-- THEOREM: a step of what is ours, with any bytes, leaves what is ours
+pub step-ours : (r : Reader) (t piece : List ℕ) (s : Stepped) (t′ : List ℕ) → Ours r t → Bytes piece → Stepping r t piece s t′ → Ours (s .reader) t′
+step-ours r t piece s t′ o b h =
+    let x = stepping-is r t piece s t′ (ours-within r t o) h in
+    let st = stepOf (soupBinTCP deliver) (stateOf r t) piece .state in
+    let k = step-kept (stateOf r t) piece b (ours-kept r t o) in
+    let u : s .reader .used ≡ length (heldIn st) = ap (λ (q : Seen). q .used) x in
+    kept-ours (s .reader) t′ (subst Kept (sym (ap (λ (q : Seen). q .step .state) x)) k) (omega (arith, u, short-fits (heldIn st) (k .short)))

@@ -1,0 +1,13 @@
+pub mod Bytes
+pub mod Typed
+pub mod Applied
+pub mod View
+pub mod Kept
+pub mod Callers
+pub mod Equal
+pub mod Refused
+pub mod Cases
+pub mod Wrong
+pub mod Saved
+pub mod Stopped
+pub mod Resume

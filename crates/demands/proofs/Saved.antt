@@ -1,0 +1,211 @@
+-- Saving and restoring by the handle: what a refusal leaves, that what our own calls make is saved, and that it comes back.
+-- Assumes nothing.
+use mathlib.Core.Path.{_≡_, refl, sym, ap, _∙_, subst}
+use mathlib.Core.Logic.{_⊎_, inl, inr}
+use mathlib.Core.List.{List, []}
+use mathlib.Core.Bool.{Bool, true, false, _||_}
+use Prim.Native.Nat.{ℕ, _+_, _-_, _*_, _/_, _≤_}
+use native.Mathlib.Omega.{arith}
+use borrow.Author.Tests.{eqb-true, le-leb, leb-true}
+use lib.Dec.{eqb, leb}
+use lib.ListN.{length, replicate}
+use Rattle.field.specs.Bytes.{part, overlay}
+use Rattle.field.specs.Limits.{highestNumber, numberInRange}
+use Rattle.field.specs.Text.{every, isSpace}
+use Rattle.field.proofs.Bools.{both-left, both-right}
+use Rattle.field.proofs.Parts.{part-all}
+use Rattle.packet.specs.Frame.{short, frame}
+use Rattle.packet.specs.Stream.{live}
+use Rattle.packet.specs.Line.{freshLine, InRange}
+use Rattle.packet.specs.Session.{Session, restored}
+use Rattle.table.specs.Memory.{tableSize, rowAt}
+use Rattle.table.specs.Board.{freshBoard}
+use Rattle.table.specs.Rules.{Sound, boardKeeps}
+use Rattle.table.specs.declared.Board.{Board}
+use Rattle.image.specs.Shape.{pagesFor, blocksFor}
+use Rattle.image.specs.Header.{freshHeader, headerKeeps, isFresh}
+use Rattle.image.specs.Save.{Saving, saving, unsaved, imageOf, sizeFor, saveOf}
+use Rattle.image.specs.Restore as images
+use Rattle.image.specs.Restore.{Restoring, restoring, restoreOf}
+use Rattle.image.specs.declared.Header.{Header}
+use Rattle.image.specs.declared.Refusal.{Refusal}
+use Rattle.image.specs.declared.Refusal.the-variants.{Misfit}
+use Rattle.image.specs.declared.Saved.{Saved}
+use Rattle.image.specs.declared.Saved.the-variants.{Whole, Unsaved}
+use Rattle.image.specs.declared.Verdict.{Verdict}
+use Rattle.image.specs.declared.Verdict.the-variants as verdict
+use Rattle.image.proofs.Rounds.{Good, Stored, stored, sound-saved, sound-cleared, saved-restored, restored-good}
+use Rattle.image.proofs.Fresh.{fresh-saved}
+use Rattle.image.proofs.Verdicts.{unsaved-leaves, refused-leaves}
+use Rattle.reader.specs.Refusals.{standing}
+use Rattle.reader.specs.Deliver.{Table}
+use Rattle.reader.specs.View.{sessionOf, stateOf, readyOf}
+use Rattle.reader.specs.Limits.{withinLimits}
+use Rattle.reader.specs.Saving.{headerOf, saveAll, Saves, lineOf, Came, restoreAll, Restores}
+use Rattle.reader.specs.declared.Reader.{Reader}
+use Rattle.reader.specs.declared.Restored.{Restored}
+use Rattle.demands.specs.Same.{SameReader}
+use Rattle.demands.specs.Sound.{begin, SoundSession, Ours}
+use Rattle.demands.proofs.Bytes.{bytes-none}
+use Rattle.demands.proofs.Kept.{Kept, kept-ours, ours-within}
+use Rattle.demands.proofs.Equal.{same-readers}
+
+-- ---- DEMAND 1, of saving: a refusal writes nothing, a success exactly the stated length
+
+module _ (r : Reader) (t out : List ℕ) (a : Saved) (z : List ℕ) (h : Saves r t out a z) where
+  saves-is : withinLimits r t ≡ true → saveOf (headerOf r) t out ≡ saving a z
+  unfolding saveAll
+  saves-is e = sym (rw e at h)
+
+  -- THEOREM: a handle that breaks a limit, or table memory of the wrong length, is refusal 20
+  pub save-20 : withinLimits r t ≡ false → (a ≡ Unsaved Misfit) × (z ≡ out)
+  unfolding saveAll
+  save-20 e =
+      let g : saving a z ≡ unsaved Misfit out = rw e at h in
+      (ap (λ (s : Saving). s .answer) g, ap (λ (s : Saving). s .out) g)
+
+  -- THEOREM: a refusal, 20, 24 or 25, writes nothing
+  pub save-leaves : {x : Refusal} → a ≡ Unsaved x → z ≡ out
+  save-leaves {x} f = by (withinLimits r t) refl
+    where
+      by : (y : Bool) → withinLimits r t ≡ y → z ≡ out
+      by true e = unsaved-leaves (headerOf r) t out z x (saves-is e ∙ ap (λ (b : Saved). saving b z) f)
+      by false e = save-20 e .1
+
+  -- THEOREM: a success writes the image from the start, so long as it says, and touches nothing after it
+  pub save-writes : {n : ℕ} → a ≡ Whole n → withinLimits r t ≡ true → Stored (headerOf r) t out n z
+  save-writes {n} f e = stored (headerOf r) t out n z (saves-is e ∙ ap (λ (b : Saved). saving b z) f)
+
+-- ---- DEMAND 1, of restoring: a refusal leaves table memory, and gives a fresh handle
+
+module _ (bytes t : List ℕ) (q : Restored) (t₁ : List ℕ) (h : Restores bytes t q t₁) where
+  came-state : stateOf (q .reader) t₁ ≡ restoreAll bytes t .state
+  came-state = ap (λ (c : Came). c .state) h
+
+  -- THEOREM: 20 to 24 on restoring
+  pub restore-leaves : {x : Refusal} → q .verdict ≡ verdict.Refused x → SameReader (q .reader) (readyOf freshLine freshBoard) × (t₁ ≡ t)
+  unfolding restoreAll
+  restore-leaves {x} f =
+      let o = restoreOf bytes t in
+      let v : o .answer .verdict ≡ verdict.Refused x = sym (ap (λ (c : Came). c .verdict) h) ∙ f in
+      let w : o ≡ restoring (images.restored (verdict.Refused x) (o .answer .header)) (o .memory)
+      = ap (λ (y : Verdict). restoring (images.restored y (o .answer .header)) (o .memory)) v in
+      let g = refused-leaves bytes t (o .memory) (o .answer .header) x w in
+      same-readers (q .reader) (readyOf freshLine freshBoard) t₁ t (came-state ∙ rw (g .0, g .1)) (ap (λ (c : Came). c .used) h)
+
+-- ---- WHAT WAS RESTORED IS OURS
+
+-- a table with no rows is all zeros
+no-rows : (mem : List ℕ) → Sound 0 mem → mem ≡ replicate tableSize 0
+no-rows mem s =
+    let z : length mem - rowAt 0 ≡ length mem = omega arith in
+    sym (part-all mem) ∙ (rw z at (s .blank)) ∙ ap (λ (n : ℕ). replicate n 0) (s .sized)
+
+-- an unknown session is a fresh one
+fresh-back : (h : Header) (mem : List ℕ) → Good h mem → isFresh h ≡ true → sessionOf freshLine (h .board) mem ≡ begin
+unfolding isFresh
+fresh-back h mem g e =
+    let a = both-right (every isSpace (h .session)) _ e in
+    let b = both-right (eqb (h .next) 1) _ a in
+    let c = both-right (eqb (h .board .event) 0) _ b in
+    let event : h .board .event ≡ 0 = eqb-true (h .board .event) 0 (both-left (eqb (h .board .event) 0) _ b) in
+    let rows : h .board .rows ≡ 0 = eqb-true (h .board .rows) 0 (both-left (eqb (h .board .rows) 0) _ c) in
+    let number : h .board .live ≡ 0 = eqb-true (h .board .live) 0 (both-right (eqb (h .board .rows) 0) _ c) in
+    let board : h .board ≡ freshBoard = λ i. record { rows = rows i; event = event i; live = number i } in
+    let memory : mem ≡ replicate tableSize 0 = no-rows mem (subst (λ (n : ℕ). Sound n mem) rows (g .sound)) in
+    ap (λ (x : Board). sessionOf freshLine x mem) board ∙ ap (λ (x : List ℕ). sessionOf freshLine freshBoard x) memory
+
+came-whose : (h : Header) (mem : List ℕ) → Good h mem → (k : Bool) → h .known ≡ k → k || isFresh h ≡ true
+    → (lineOf h .known ≡ true) ⊎ (sessionOf (lineOf h) (h .board) mem ≡ begin)
+came-whose h mem g true k e = inl (rw k)
+came-whose h mem g false k e = inr (rw k (fresh-back h mem g e))
+
+came-range : (h : Header) → numberInRange (h .next) ≡ true → (k : Bool) → h .known ≡ k → InRange (lineOf h)
+came-range h e true k = rw k (record { some = leb-true 1 (h .next) (both-left (leb 1 (h .next)) (leb (h .next) highestNumber) e); most = leb-true (h .next) highestNumber (both-right (leb 1 (h .next)) (leb (h .next) highestNumber) e) })
+came-range h e false k = rw k (record { some = omega arith; most = omega arith })
+
+came-sound : (h : Header) (mem : List ℕ) → Good h mem → SoundSession (sessionOf (lineOf h) (h .board) mem)
+unfolding headerKeeps
+came-sound h mem g =
+    record {
+      range = came-range h (g .next) (h .known) refl;
+      about = record { rows = g .sound; board = both-left (boardKeeps (h .board)) _ (g .header) };
+      whose = came-whose h mem g (h .known) refl (both-right (boardKeeps (h .board)) (h .known || isFresh h) (g .header));
+    }
+
+module _ (bytes t : List ℕ) (q : Restored) (t₁ : List ℕ) (h : Restores bytes t q t₁) (v : q .verdict ≡ verdict.Accepted) where
+  accepted-is : restoreOf bytes t ≡ restoring (images.restored verdict.Accepted (restoreOf bytes t .answer .header)) (restoreOf bytes t .memory)
+  unfolding restoreAll
+  accepted-is =
+      let o = restoreOf bytes t in
+      ap (λ (y : Verdict). restoring (images.restored y (o .answer .header)) (o .memory)) (sym (ap (λ (c : Came). c .verdict) h) ∙ v)
+
+  -- THEOREM: a reader that was restored without refusal, and its table, are as our own calls make them
+  pub restore-ours : Ours (q .reader) t₁
+  unfolding restoreAll frame standing
+  restore-ours =
+      let o = restoreOf bytes t in
+      let k : Kept (live (sessionOf (lineOf (o .answer .header)) (o .answer .header .board) (o .memory)) [])
+      = record {
+        sound = came-sound (o .answer .header) (o .memory) (restored-good bytes t (o .memory) (o .answer .header) accepted-is);
+        stands = refl;
+        short = refl;
+        bytes = bytes-none;
+      } in
+      kept-ours (q .reader) t₁ (subst Kept (sym (came-state bytes t q t₁ h)) k) (omega (arith, ap (λ (c : Came). c .used) h))
+
+-- ---- WHAT IS OURS IS SAVED, AND COMES BACK
+
+module _ (r : Reader) (t : List ℕ) (o : Ours r t) (known : r .line .known ≡ true) (out : List ℕ) (room : sizeFor (r .board .rows) ≤ length out)
+    (a : Saved) (z : List ℕ) (h : Saves r t out a z) where
+  in-range : numberInRange (r .line .next) ≡ true
+  in-range = rw (le-leb 1 (r .line .next) (o .sound .range .some), le-leb (r .line .next) highestNumber (o .sound .range .most))
+
+  saved-is : saveOf (headerOf r) t out ≡ saving (Whole (sizeFor (r .board .rows))) (overlay out 0 (imageOf (headerOf r) t))
+  saved-is = sound-saved (headerOf r) t (o .sound .about .rows) in-range (o .sound .about .board) known out room
+
+  -- with a known session, saving what is ours is not refused where the output is long enough
+  pub known-saved : a ≡ Whole (sizeFor (r .board .rows))
+  known-saved = ap (λ (s : Saving). s .answer) (sym (saves-is r t out a z h (ours-within r t o)) ∙ saved-is)
+
+  -- THEOREM: restoring it is not refused, and gives the same table and the session, which waits for its login
+  pub saved-comes-back : length (r .line .session) ≡ 10 → (t₀ : List ℕ) → length t₀ ≡ tableSize → (q : Restored) (t₁ : List ℕ)
+      → Restores (part z 0 (sizeFor (r .board .rows))) t₀ q t₁
+      → (q .verdict ≡ verdict.Accepted) × (stateOf (q .reader) t₁ ≡ live (restored (sessionOf (r .line) (r .board) t)) [])
+  unfolding restoreAll
+  saved-comes-back ten t₀ l q t₁ g =
+      let n = sizeFor (r .board .rows) in
+      let whole : saveOf (headerOf r) t out ≡ saving (Whole n) z
+      = saves-is r t out a z h (ours-within r t o) ∙ ap (λ (b : Saved). saving b z) known-saved in
+      let back : restoreOf (part z 0 n) t₀ ≡ restoring (images.restored verdict.Accepted (headerOf r)) t
+      = saved-restored (headerOf r) t out t₀ z n ten l whole
+      ∙ ap (restoring (images.restored verdict.Accepted (headerOf r)))
+      (sound-cleared (headerOf r) t (o .sound .about .rows) in-range (o .sound .about .board) known) in
+      let c : Restores (part z 0 n) t₀ q t₁ = g in (
+        ap (λ (x : Came). x .verdict) g ∙ ap (λ (x : Restoring). x .answer .verdict) back,
+        ap (λ (x : Came). x .state) g ∙ rw (back, known),
+      )
+
+-- a reader to which nothing has happened is saved as one block
+fresh-saves : (r : Reader) (t : List ℕ) → Ours r t → sessionOf (r .line) (r .board) t ≡ begin → (out : List ℕ) → sizeFor (r .board .rows) ≤ length out
+    → (a : Saved) (z : List ℕ) → Saves r t out a z → a ≡ Whole (sizeFor (r .board .rows))
+unfolding sizeFor blocksFor pagesFor
+fresh-saves r t o e out room a z h =
+    let line : r .line ≡ freshLine = ap (λ (s : Session Table). s .line) e in
+    let board : r .board ≡ freshBoard = ap (λ (s : Session Table). s .about .board) e in
+    let head : headerOf r ≡ freshHeader = rw (line, board) in
+    let rows : r .board .rows ≡ 0 = ap (λ (b : Board). b .rows) board in
+    let fits : 512 ≤ length out = subst (λ (n : ℕ). (1 + (n + 3) / 4) * 512 ≤ length out) rows room in
+    let saved : saveOf (headerOf r) t out ≡ saving (Whole 512) (overlay out 0 (imageOf freshHeader t))
+    = ap (λ (x : Header). saveOf x t out) head ∙ fresh-saved t out (o .sound .about .rows .sized) fits in
+    ap (λ (s : Saving). s .answer) (sym (saves-is r t out a z h (ours-within r t o)) ∙ saved)
+    ∙ ap (λ (n : ℕ). Whole ((1 + (n + 3) / 4) * 512)) (sym rows)
+
+-- THEOREM: saving what our own calls make is not refused but where the output is too short
+pub ours-saved : (r : Reader) (t : List ℕ) → Ours r t → (out : List ℕ) → sizeFor (r .board .rows) ≤ length out → (a : Saved) (z : List ℕ)
+    → Saves r t out a z → a ≡ Whole (sizeFor (r .board .rows))
+ours-saved r t o out room a z h = by (o .sound .whose)
+  where
+    by : (r .line .known ≡ true) ⊎ (sessionOf (r .line) (r .board) t ≡ begin) → a ≡ Whole (sizeFor (r .board .rows))
+    by (inl k) = known-saved r t o k out room a z h
+    by (inr e) = fresh-saves r t o e out room a z h

@@ -1,0 +1,21 @@
+-- What a refusal leaves.
+-- Assumes nothing.
+use Prim.Native.Nat.{ℕ}
+use mathlib.Core.Path.{_≡_}
+use mathlib.Core.Bool.{false}
+use mathlib.Core.List.{List}
+use Rattle.reader.specs.Refusals.{refusalNumber}
+use Rattle.reader.specs.View.{noText}
+use Rattle.reader.specs.declared.Refusal.{Refusal}
+use Rattle.reader.specs.declared.Reader.{Reader}
+use Rattle.reader.specs.declared.Stepped.{Stepped}
+
+-- refusals 1 to 16: the table and the handle are as they were, but nothing is held and the refusal stands
+pub record Leaves (r : Reader) (t : List ℕ) (x : Refusal) (s : Stepped) (t′ : List ℕ) : Type 0 where
+  pub memory : t′ ≡ t
+  pub line : s .reader .line ≡ r .line
+  pub board : s .reader .board ≡ r .board
+  pub ended : s .reader .ended ≡ false
+  pub standing : s .reader .refusal ≡ refusalNumber x
+  pub used : s .reader .used ≡ 0
+  pub texts : s .texts ≡ noText

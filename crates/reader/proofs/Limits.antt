@@ -1,0 +1,243 @@
+-- The limits of a handle, and the ways through starting and a step.
+-- Assumes nothing.
+use mathlib.Core.Path.{_≡_, refl, sym}
+use mathlib.Core.List.{List, [], _∷_}
+use mathlib.Core.Bool.{Bool, true, false, not, _&&_, _||_}
+use Prim.Native.Nat.{ℕ, _+_, _≤_, _<_}
+use native.Mathlib.Omega.{arith}
+use borrow.Author.Tests.{eqb-true, eqb-false, leb-true, eq-eqb, ne-eqb, le-leb, lt-leb}
+use lib.Dec.{eqb, leb}
+use lib.ListN.{length}
+use lib.Seq.{length-take-le}
+use Rattle.field.specs.Limits.{highestNumber, numberInRange}
+use Rattle.packet.specs.Frame.{Framed, short, badLength, packet, frame, frontOf, heldSize}
+use Rattle.packet.specs.Stream.{stepOf}
+use Rattle.packet.specs.Line.{freshLine, waiting}
+use Rattle.packet.specs.declared.Line.{Line}
+use Rattle.packet.specs.Session.{soupBinTCP}
+use Rattle.packet.specs.declared.Framing.{Framing}
+use Rattle.packet.specs.declared.Framing.the-variants.{Short, BadLength, Whole}
+use Rattle.packet.proofs.Frame.{short-there, bad-there, whole-there}
+use Rattle.packet.proofs.Rules.{both, and-both, not-call, not-not-call, never}
+use Rattle.table.specs.Memory.{mostRows, tableSize}
+use Rattle.table.specs.Board as tables
+use Rattle.table.specs.Board.{fits, outcome, startOf}
+use Rattle.table.specs.declared.Applied.{Applied}
+use Rattle.table.specs.declared.Refusal as tableRefusal
+use Rattle.table.specs.declared.Verdict.the-variants as table
+use Rattle.image.specs.Save.{saving, saveOf}
+use Rattle.image.specs.Restore.{restoring, restoreOf}
+use Rattle.image.specs.declared.Header.{Header}
+use Rattle.image.specs.declared.Refusal.the-variants as images
+use Rattle.image.specs.declared.Saved.{Saved}
+use Rattle.image.specs.declared.Saved.the-variants as saved
+use Rattle.image.specs.declared.Restored as image
+use Rattle.reader.specs.Refusals.{refusalNumber, standing, standingRefusals, namedIn, named}
+use Rattle.reader.specs.Deliver.{deliver}
+use Rattle.reader.specs.View.{heldOf, stateOf, liveOf, seenOf, seen, stillOf, readyOf}
+use Rattle.reader.specs.Limits.{isShort, unfinished, holdsUnfinished, withinLimits, Fit}
+use Rattle.reader.specs.Calls.{stepAll, Stepping, startAll, Starting}
+use Rattle.reader.specs.Saving.{headerOf, saveAll, Saves, lineOf, restoreAll, Restores}
+use Rattle.reader.specs.declared.Refusal.{Refusal}
+use Rattle.reader.specs.declared.Refusal.the-variants as refusal
+use Rattle.reader.specs.declared.Reader.{Reader}
+use Rattle.reader.specs.declared.Stepped.{Stepped}
+use Rattle.reader.specs.declared.StepAnswer.the-variants as answer
+use Rattle.reader.specs.declared.StartAnswer.the-variants as started
+
+-- ---- what is held
+
+module _ (r : Reader) where
+  pub held-over : heldSize < r .used → false ≡ holdsUnfinished r
+  unfolding holdsUnfinished
+  held-over h = rw (lt-leb (r .used) heldSize h)
+
+  pub held-short : {w : Framing} → r .used ≤ heldSize → w ≡ frontOf (frame (heldOf r)) → w ≡ Short → true ≡ holdsUnfinished r
+  unfolding holdsUnfinished unfinished
+  held-short h e f = rw (le-leb (r .used) heldSize h, short-there (heldOf r) e f)
+
+  pub held-bad : {w : Framing} → r .used ≤ heldSize → w ≡ frontOf (frame (heldOf r)) → w ≡ BadLength → false ≡ holdsUnfinished r
+  unfolding holdsUnfinished unfinished
+  held-bad h e f = rw (le-leb (r .used) heldSize h, bad-there (heldOf r) e f .is)
+
+  pub held-whole : {w : Framing} {n : ℕ} → r .used ≤ heldSize → w ≡ frontOf (frame (heldOf r)) → w ≡ Whole n → false ≡ holdsUnfinished r
+  unfolding holdsUnfinished unfinished
+  held-whole h e f = rw (le-leb (r .used) heldSize h, whole-there (heldOf r) e f .is)
+
+short-is : (f : Framed) → isShort f ≡ true → f ≡ short
+short-is short e = refl
+short-is (badLength rest) e = absurd (never e)
+short-is (packet letter body rest) e = absurd (never e)
+
+pub unfinished-short : (bs : List ℕ) → unfinished bs ≡ true → frame bs ≡ short
+unfolding unfinished
+unfinished-short bs e = short-is (frame bs) e
+
+-- ---- the limits, in their order
+
+module _ (r : Reader) (memory : List ℕ) where
+  pub within-size : (length memory ≡ tableSize → ⊥) → false ≡ withinLimits r memory
+  unfolding withinLimits fits
+  within-size h = rw (ne-eqb (length memory) tableSize h)
+
+  pub within-rows : length memory ≡ tableSize → mostRows < r .board .rows → false ≡ withinLimits r memory
+  unfolding withinLimits fits
+  within-rows e h = rw (eq-eqb (length memory) tableSize e, lt-leb (r .board .rows) mostRows h)
+
+  fitting : length memory ≡ tableSize → r .board .rows ≤ mostRows → fits (r .board) memory ≡ true
+  unfolding fits
+  fitting e h = rw (eq-eqb (length memory) tableSize e, le-leb (r .board .rows) mostRows h)
+
+  pub within-number : {a : Bool} → length memory ≡ tableSize → r .board .rows ≤ mostRows → a ≡ numberInRange (r .line .next) → not a ≡ true
+      → false ≡ withinLimits r memory
+  unfolding withinLimits
+  within-number {a} e h f g = rw (fitting e h, not-call a (numberInRange (r .line .next)) f g)
+
+  pub within-held : {a b : Bool} → length memory ≡ tableSize → r .board .rows ≤ mostRows → a ≡ numberInRange (r .line .next) → not a ≡ false
+      → b ≡ holdsUnfinished r → not b ≡ true → false ≡ withinLimits r memory
+  unfolding withinLimits
+  within-held {a} {b} e h f g i j =
+      rw (fitting e h, not-not-call a (numberInRange (r .line .next)) f g, not-call b (holdsUnfinished r) i j)
+
+  pub within-stands : {a b s : Bool} → length memory ≡ tableSize → r .board .rows ≤ mostRows → a ≡ numberInRange (r .line .next) → not a ≡ false
+      → b ≡ holdsUnfinished r → not b ≡ false → s ≡ standing (r .refusal) → s ≡ withinLimits r memory
+  unfolding withinLimits
+  within-stands {a} {b} e h f g i j k =
+      rw (fitting e h, not-not-call a (numberInRange (r .line .next)) f g, not-not-call b (holdsUnfinished r) i j) k
+
+-- what a handle within its limits has
+pub record Within (r : Reader) (memory : List ℕ) : Type 0 where
+  pub fitted : fits (r .board) memory ≡ true
+  pub some : 1 ≤ r .line .next
+  pub most : r .line .next ≤ highestNumber
+  pub start : r .used ≤ heldSize
+  pub short : frame (heldOf r) ≡ short
+  pub stands : standing (r .refusal) ≡ true
+
+pub within : (r : Reader) (memory : List ℕ) → withinLimits r memory ≡ true → Within r memory
+unfolding withinLimits holdsUnfinished
+within r memory e =
+    let a = and-both (fits (r .board) memory) _ e in
+    let b = and-both (numberInRange (r .line .next)) _ (a .1) in
+    let n = and-both (leb 1 (r .line .next)) (leb (r .line .next) highestNumber) (b .0) in
+    let c = and-both (holdsUnfinished r) (standing (r .refusal)) (b .1) in
+    let h = and-both (leb (r .used) heldSize) (unfinished (heldOf r)) (c .0) in
+    record {
+      fitted = a .0;
+      some = leb-true 1 (r .line .next) (n .0);
+      most = leb-true (r .line .next) highestNumber (n .1);
+      start = leb-true (r .used) heldSize (h .0);
+      short = unfinished-short (heldOf r) (h .1);
+      stands = c .1;
+    }
+
+-- ---- names and numbers of standing refusals
+
+abbrev DiffersFrom : List Refusal → ℕ → Type 0
+DiffersFrom [] n = Unit
+DiffersFrom (r ∷ rs) n = (n ≡ refusalNumber r → ⊥) × DiffersFrom rs n
+
+-- a number that does not differ from all of a list is that of its name in it
+named-in : (rs : List Refusal) (n : ℕ) → (DiffersFrom rs n → ⊥) → refusalNumber (namedIn rs n) ≡ n
+unfolding namedIn
+named-in [] n h = absurd (h tt)
+named-in (r ∷ rs) n h =
+    both (λ (x : Refusal). refusalNumber x ≡ n) (eqb n (refusalNumber r)) (λ e. sym (eqb-true n (refusalNumber r) e))
+    (λ e. named-in rs n (λ d. h (eqb-false n (refusalNumber r) e, d)))
+
+above : (n k : ℕ) → k ≤ n → (n ≡ k → ⊥) → k + 1 ≤ n
+above n k h d = omega arith
+
+low : (n : ℕ) → n ≤ 6 → 1 ≤ n → DiffersFrom standingRefusals n → ⊥
+low n h k d =
+    let a : 4 ≤ n = above n 3 (above n 2 (above n 1 k (d .0)) (d .1 .0)) (d .1 .1 .0) in
+    let b : 7 ≤ n = above n 6 (above n 5 (above n 4 a (d .1 .1 .1 .0)) (d .1 .1 .1 .1 .0)) (d .1 .1 .1 .1 .1 .0) in
+    omega arith
+
+high : (n : ℕ) → n ≤ 16 → 10 ≤ n → DiffersFrom standingRefusals n → ⊥
+high n h k d =
+    let m = d .1 .1 .1 .1 .1 .1 in
+    let a : 13 ≤ n = above n 12 (above n 11 (above n 10 k (m .0)) (m .1 .0)) (m .1 .1 .0) in
+    let t = m .1 .1 .1 in
+    let b : 17 ≤ n = above n 16 (above n 15 (above n 14 (above n 13 a (t .0)) (t .1 .0)) (t .1 .1 .0)) (t .1 .1 .1 .0) in
+    omega arith
+
+-- a number that may stand, and is some, is that of its name
+pub named-number : (n : ℕ) → standing n ≡ true → (n ≡ 0 → ⊥) → refusalNumber (named n) ≡ n
+unfolding standing named
+named-number n s h = named-in standingRefusals n (λ d. by (leb n 6) refl d s)
+  where
+    by : (t : Bool) → leb n 6 ≡ t → DiffersFrom standingRefusals n → t || (leb 10 n && leb n 16) ≡ true → ⊥
+    by true e d g = let l = leb-true n 6 e in low n l (omega arith) d
+    by false e d g = let b = and-both (leb 10 n) (leb n 16) g in high n (leb-true n 16 (b .1)) (leb-true 10 n (b .0)) d
+
+-- ---- the ways through a step
+
+module _ (r : Reader) (memory piece : List ℕ) {w : Bool} (e : w ≡ withinLimits r memory) where
+  pub step-unfit : (s : Stepped) → not w ≡ true → s ≡ stillOf r (answer.Refused refusal.Unfit) → Stepping r memory piece s memory
+  unfolding stepAll
+  step-unfit s f g = rw (g, not-call w (withinLimits r memory) e f)
+
+  module _ (f : not w ≡ false) where
+    held : Within r memory
+    held = within r memory (not-not-call w (withinLimits r memory) e f)
+
+    pub fit : Fit r
+    fit = record { most = held .most; start = held .start; short = held .short }
+
+    goes : stepAll r memory piece ≡ seen (stepOf (soupBinTCP deliver) (stateOf r memory) piece)
+    unfolding stepAll
+    goes = rw (not-not-call w (withinLimits r memory) e f)
+
+    module _ (long : length (r .held) ≡ heldSize) where
+      held-length : length (heldOf r) ≡ r .used
+      held-length = length-take-le (r .used) (r .held) (omega (arith, held .start))
+
+      pub step-refused : (s : Stepped) (x : Refusal) → (r .refusal ≡ 0 → ⊥) → x ≡ named (r .refusal) → s ≡ stillOf r (answer.Refused x)
+          → Stepping r memory piece s memory
+      unfolding stepOf
+      step-refused s x h i g =
+          rw (goes, g, i, named-number (r .refusal) (held .stands) h) (simp (ne-eqb (r .refusal) 0 h, held-length))
+
+      pub step-ended : (s : Stepped) → r .refusal ≡ 0 → r .ended ≡ true → s ≡ stillOf r answer.Ended → Stepping r memory piece s memory
+      unfolding stepOf
+      step-ended s h k g = rw (goes, g) (simp (eq-eqb (r .refusal) 0 h, k, held-length))
+
+    pub step-live : (s : Stepped) (after : List ℕ) → r .refusal ≡ 0 → r .ended ≡ false
+        → seenOf s after ≡ seen (stepOf (soupBinTCP deliver) (liveOf r memory) piece) → Stepping r memory piece s after
+    step-live s after h k g = rw goes (simp (eq-eqb (r .refusal) 0 h, k) g)
+
+-- ---- the ways through starting
+
+module _ (memory after : List ℕ) (a : Applied) (l : Line) (r : Reader) (e : outcome a after ≡ startOf memory) (i : l ≡ freshLine) (f : r ≡ readyOf l (a .board)) where
+  pub start-ready : a .verdict ≡ table.Accepted → Starting memory (record { reader = r; answer = started.Ready }) after
+  unfolding startAll
+  start-ready g = rw (f, i, ← e, g)
+
+  pub start-refused : {d : tableRefusal.Refusal} (x : Refusal) → a .verdict ≡ table.Refused d → refusalNumber x ≡ tables.refusalNumber d
+      → Starting memory (record { reader = r; answer = started.Refused x }) after
+  unfolding startAll
+  start-refused x g h = rw (f, i, ← e, g, h)
+
+-- ---- the ways through saving and restoring
+
+module _ (r : Reader) (memory out : List ℕ) {w : Bool} (e : w ≡ withinLimits r memory) where
+  pub save-unfit : not w ≡ true → Saves r memory out (saved.Unsaved images.Misfit) out
+  unfolding saveAll
+  save-unfit f = rw (not-call w (withinLimits r memory) e f)
+
+  pub save-goes : (a : Saved) (after : List ℕ) → not w ≡ false → saving a after ≡ saveOf (headerOf r) memory out → Saves r memory out a after
+  unfolding saveAll
+  save-goes a after f g = rw (not-not-call w (withinLimits r memory) e f) g
+
+module _ (h : Header) where
+  pub line-known : {l : Line} → h .known ≡ true → l ≡ waiting (h .session) (h .next) → l ≡ lineOf h
+  line-known k e = rw k e
+
+  pub line-fresh : {l : Line} → h .known ≡ false → l ≡ freshLine → l ≡ lineOf h
+  line-fresh k e = rw k e
+
+pub restore-goes : (bytes memory after : List ℕ) (b : image.Restored) (l : Line) (r : Reader) → restoring b after ≡ restoreOf bytes memory
+    → l ≡ lineOf (b .header) → r ≡ readyOf l (b .header .board) → Restores bytes memory (record { reader = r; verdict = b .verdict }) after
+unfolding restoreAll
+restore-goes bytes memory after b l r e f g = rw (g, f, ← e)

@@ -1,0 +1,9 @@
+use borrow.Author.Needs.{needs}
+use Rattle.reader.proofs.verdicts.quiet.Statement.{statement}
+use Rattle.reader.proofs.verdicts.quiet.Tie as tie
+
+returns : tie.Need-returns
+returns c = rw (c .no-text .ensures)
+
+pub quiet-spec : {M : Type 1} → statement M
+quiet-spec = tie.close (tie.spec (λ c κs. search needs) returns)

@@ -1,0 +1,6 @@
+pub mod Refusals
+pub mod Deliver
+pub mod View
+pub mod Limits
+pub mod Calls
+pub mod Saving

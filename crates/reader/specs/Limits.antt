@@ -1,0 +1,37 @@
+-- The limits of a handle: one that breaks them, or memory of the wrong length, is refusal 20.
+-- Assumes nothing.
+use Prim.Native.Nat.{ℕ, _≤_}
+use mathlib.Core.Path.{_≡_}
+use mathlib.Core.Bool.{Bool, true, false, _&&_}
+use mathlib.Core.List.{List}
+use lib.Dec.{leb}
+use Rattle.field.specs.Limits.{highestNumber, numberInRange}
+use Rattle.packet.specs.Frame.{Framed, short, badLength, packet, frame, heldSize}
+use Rattle.table.specs.Board.{fits}
+use Rattle.reader.specs.Refusals.{standing}
+use Rattle.reader.specs.View.{heldOf}
+use Rattle.reader.specs.declared.Reader.{Reader}
+
+abbrev pub isShort : Framed → Bool
+isShort short = true
+isShort (badLength rest) = false
+isShort (packet letter body rest) = false
+
+-- an unfinished packet of allowed length; a lone first byte may be any
+unfoldable pub unfinished : List ℕ → Bool
+unfinished bs = isShort (frame bs)
+
+-- what is held: as many bytes as there is room for, and no whole packet
+unfoldable pub holdsUnfinished : Reader → Bool
+holdsUnfinished r = leb (r .used) heldSize && unfinished (heldOf r)
+
+-- memory of the right length and at most 256 rows; the next number; what is held; a standing refusal
+unfoldable pub withinLimits : Reader → List ℕ → Bool
+withinLimits r memory =
+    fits (r .board) memory && (numberInRange (r .line .next) && (holdsUnfinished r && standing (r .refusal)))
+
+-- what the step of a handle within its limits is given
+pub record Fit (r : Reader) : Type 0 where
+  pub most : r .line .next ≤ highestNumber
+  pub start : r .used ≤ heldSize
+  pub short : frame (heldOf r) ≡ short
