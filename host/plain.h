@@ -1,0 +1,180 @@
+/* A reader of one Top of Market session, in plain C11.
+ *
+ * It reads the server's SoupBinTCP byte stream piece by piece, keeps a table
+ * of at most 256 instruments, saves and restores that table, and reads and
+ * writes single messages. The caller lends all memory; there is no other state.
+ * Refusals are the numbers of document 01; 0 means done.
+ */
+#ifndef PLAIN_H
+#define PLAIN_H
+
+#include <stdbool.h>
+#include <stddef.h>
+#include <stdint.h>
+
+enum {
+    PLAIN_ROW_BYTES = 124,
+    PLAIN_MAX_ROWS = 256,
+    PLAIN_TABLE_BYTES = PLAIN_MAX_ROWS * PLAIN_ROW_BYTES,
+    PLAIN_BLOCK_BYTES = 512,
+    PLAIN_MAX_BLOCKS = 65,
+    PLAIN_IMAGE_BYTES = PLAIN_MAX_BLOCKS * PLAIN_BLOCK_BYTES,
+    PLAIN_PACKET_BYTES = 258,  /* the longest packet, its length included */
+    PLAIN_MESSAGE_BYTES = 63,  /* the longest message, a directory */
+    PLAIN_SESSION_BYTES = 10,
+    PLAIN_LISTING_BYTES = 9502 /* the longest listing */
+};
+
+#define PLAIN_MAX_NUMBER UINT64_C(1000000000000)
+#define PLAIN_MAX_TIME UINT64_C(86399999999999)
+
+/* Where each field of a row begins. */
+enum {
+    ROW_ID = 0, ROW_SYMBOL = 4, ROW_YEAR = 12, ROW_MONTH = 13, ROW_DAY = 14,
+    ROW_STRIKE = 15, ROW_TYPE = 19, ROW_UNDERLYING = 20, ROW_CLOSING = 33,
+    ROW_TRADABLE = 34, ROW_VARIATION = 35, ROW_RESERVED = 36, ROW_STATE = 52,
+    ROW_CONDITION = 53, ROW_SIDES = 54, ROW_GAP = 55, ROW_BID = 56,
+    ROW_ASK = 76, ROW_TRACKING = 96, ROW_TIME = 98, ROW_TAIL = 106
+};
+
+/* The eight kinds of message record. */
+enum plain_kind {
+    PLAIN_SYSTEM_EVENT, /* S */
+    PLAIN_DIRECTORY,    /* m */
+    PLAIN_STATE,        /* H */
+    PLAIN_BOTH_SHORT,   /* q */
+    PLAIN_BOTH_LONG,    /* Q */
+    PLAIN_ONE_SHORT,    /* b, a */
+    PLAIN_ONE_LONG,     /* B, A */
+    PLAIN_REPLAY_END    /* M */
+};
+
+enum plain_which { PLAIN_BID, PLAIN_ASK };
+
+struct plain_short_side {
+    uint16_t market, price, size, customer, professional; /* price in pennies */
+};
+
+struct plain_long_side {
+    uint32_t market, price, size, customer, professional; /* price in 1/10000 */
+};
+
+struct plain_directory {
+    uint32_t strike;
+    uint8_t year, month, day, type, closing, tradable, variation;
+};
+
+struct plain_both_short {
+    uint8_t condition;
+    struct plain_short_side bid, ask;
+};
+
+struct plain_both_long {
+    uint8_t condition;
+    struct plain_long_side bid, ask;
+};
+
+struct plain_one_short {
+    uint8_t condition;
+    enum plain_which which;
+    struct plain_short_side side;
+};
+
+struct plain_one_long {
+    uint8_t condition;
+    enum plain_which which;
+    struct plain_long_side side;
+};
+
+/* One message. A system event has no id, the end of replay only its number;
+ * what a kind lacks is 0 when reading and is not looked at when writing.
+ * The texts are those of a directory. */
+struct plain_message {
+    enum plain_kind kind;
+    uint16_t tracking;
+    uint32_t id;
+    uint64_t time;
+    union {
+        uint8_t code;  /* system event */
+        uint8_t state; /* state */
+        struct plain_directory directory;
+        struct plain_both_short both_short;
+        struct plain_both_long both_long;
+        struct plain_one_short one_short;
+        struct plain_one_long one_long;
+        uint64_t number; /* end of replay */
+    };
+    uint8_t symbol[8], underlying[13], reserved[16];
+};
+
+/* The reader's handle. Places of `held` past `used` mean nothing. */
+struct plain_reader {
+    uint64_t next, live;
+    uint32_t rows, used, refusal; /* refusal 0: none stands */
+    uint8_t event;                /* 0 before any */
+    bool known, logged_in, ended;
+    uint8_t session[PLAIN_SESSION_BYTES];
+    uint8_t held[PLAIN_PACKET_BYTES];
+};
+
+enum plain_answer_kind { PLAIN_EVENT, PLAIN_MORE, PLAIN_ENDED, PLAIN_REFUSED };
+
+enum plain_event_kind {
+    PLAIN_MESSAGE,
+    PLAIN_ACCEPTED, /* login accepted */
+    PLAIN_REJECTED, /* login rejected */
+    PLAIN_HEARTBEAT,
+    PLAIN_SESSION_END,
+    PLAIN_SKIPPED
+};
+
+/* One step's answer. Only the fields that its kind names are set. */
+struct plain_answer {
+    enum plain_answer_kind kind;
+    enum plain_event_kind event;          /* event */
+    size_t taken;                         /* always */
+    uint32_t refusal;                     /* always; 0 unless refused */
+    uint8_t reason;                       /* login rejected */
+    uint8_t session[PLAIN_SESSION_BYTES]; /* login accepted */
+    struct plain_message message;         /* message */
+};
+
+/* Makes the handle fresh and fills the table with zeros: 0 or 20. */
+int plain_start(struct plain_reader *r, uint8_t *table, size_t table_len);
+
+/* Takes bytes from the piece up to the end of one packet. */
+void plain_step(struct plain_reader *r, uint8_t *table, size_t table_len,
+                const uint8_t *piece, size_t n, struct plain_answer *out);
+
+/* Writes the saved table: 0, 20, 24 or 25. `written` is 0 on a refusal. */
+int plain_save(const struct plain_reader *r, const uint8_t *table,
+               size_t table_len, uint8_t *out, size_t out_len, size_t *written);
+
+/* Makes handle and table from an image: 0, or 20 to 24 and a fresh handle. */
+int plain_restore(struct plain_reader *r, uint8_t *table, size_t table_len,
+                  const uint8_t *image, size_t n);
+
+/* Reads one message: 0, 10, 11 or 12. A refusal leaves the record alone. */
+int plain_read(const uint8_t *bytes, size_t n, struct plain_message *m);
+
+/* Writes one message: 0, 26 or 25. `written` is 0 on a refusal. */
+int plain_write(const struct plain_message *m, uint8_t *out, size_t out_len,
+                size_t *written);
+
+/* Writes the listing's text, with no closing zero: 0, 20 or 25. */
+int plain_listing(const struct plain_reader *r, const uint8_t *table,
+                  size_t table_len, char *out, size_t out_len, size_t *written);
+
+/* Whether two records say the same, field by field of their kind. */
+bool plain_same_message(const struct plain_message *a,
+                        const struct plain_message *b);
+
+/* Whether two answers say the same, looking only at the fields that are set. */
+bool plain_same_answer(const struct plain_answer *a,
+                       const struct plain_answer *b);
+
+/* Whether two handles are the same, places past the held bytes left aside. */
+bool plain_same_reader(const struct plain_reader *a,
+                       const struct plain_reader *b);
+
+#endif
