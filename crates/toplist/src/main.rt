@@ -1,26 +1,28 @@
 // Lists the table of a session that comes on standard input; saves it, or restores it first, where the arguments ask for it.
 use arguments::Wanted;
+use block::BLOCK_SIZE;
 use files::Loaded;
+use image::MOST_BLOCKS;
 use image::Saved;
 use image::Verdict;
 use libc::STDERR_FILENO;
 use libc::STDOUT_FILENO;
 use listing::Ending;
 use reader::Reader;
+use table::MOST_ROWS;
+use table::TABLE_SIZE;
 
 mod arguments;
 mod files;
 mod session;
 
-const TABLE_SIZE: usize = 31744;
-
 // No listing has more lines, and no image more bytes.
-const MOST_LINES: usize = 258;
+const MOST_LINES: usize = MOST_ROWS + 2;
 
-const MOST_IMAGE: usize = 33280;
+const MOST_IMAGE: usize = MOST_BLOCKS * BLOCK_SIZE;
 
 // Room for a block more, so that a longer file is seen to be too long.
-const LONGER_IMAGE: usize = 33792;
+const LONGER_IMAGE: usize = MOST_IMAGE + BLOCK_SIZE;
 
 fn print_help() {
     io::write_all(
