@@ -1,3 +1,5 @@
+-- `reader::handed` meets its contract.
+-- Assumes nothing.
 use mathlib.Core.Path.{refl}
 use Rattle.reader.proofs.handed.Statement.{statement}
 use Rattle.reader.proofs.handed.Tie as tie
