@@ -6,10 +6,10 @@ use Prim.Native.Nat.{ℕ, _+_, _-_, _≤_, _<_}
 use native.Mathlib.Omega.{arith}
 use lib.ListN.{length, take, drop, length-append, length-drop, take-append-drop}
 use lib.Seq.{take-length}
-use Rattle.packet.specs.Frame.{Framed, short, badLength, packet, frame}
+use Rattle.packet.specs.Frame.{Framed, short, badLength, packet, frame, frontOf, heldSize}
 use Rattle.packet.specs.Stream.{Verdict, accept, finish, refuse, State, live, ended, refused, Unfinished, NothingLeft, Run, first, _then_, still, eventsOf, told, Called, stop, call}
 use Rattle.packet.specs.Stream.{judged, readAll, reading, stepJudged, stepFramed, stepOf}
-use Rattle.packet.proofs.Frame.{Found, after, grown, frame-grows, frame-ends, frame-left}
+use Rattle.packet.proofs.Frame.{Found, after, grown, frame-grows, frame-ends, frame-left, short-fits, bad-there, whole-there}
 use Rattle.packet.proofs.Cut.{reading-at, reading-cut, reading-unfinished, reading-none}
 
 -- ---- the bytes that a call takes end with what it found
@@ -101,6 +101,26 @@ module _ {S E : Type 0} (judge : S → ℕ → List ℕ → Verdict S E) where
   step-within (live s held) piece = framed-within s held piece (frame (held ++ piece))
   step-within (ended s held) piece = omega arith
   step-within (refused s held e n) piece = omega arith
+
+  -- and no more than a packet
+  framed-most : (s : S) (held piece : List ℕ) (f : Framed) → frame (held ++ piece) ≡ f → stepFramed judge s held piece f .taken ≤ heldSize
+  framed-most s held piece short e = omega (arith, short-fits (held ++ piece) e, length-append held piece)
+  framed-most s held piece (badLength r) e =
+      let b = bad-there (held ++ piece) refl (ap frontOf e) in
+      let l : length r ≡ length (drop 2 (held ++ piece)) = ap (λ (x : Framed). length (after x)) (sym e ∙ b .is) in
+      omega (arith, l, length-drop 2 (held ++ piece), length-append held piece, b .two)
+  framed-most s held piece (packet c b r) e =
+      let w = whole-there (held ++ piece) refl (ap frontOf e) in
+      let n = length b + 1 + 2 in
+      let l : length r ≡ length (drop n (held ++ piece)) = ap (λ (x : Framed). length (after x)) (sym e ∙ w .is) in
+      rw (judged-takes (length piece - length r) (judge s c b))
+      (omega (arith, l, length-drop n (held ++ piece), length-append held piece, w .there, w .high))
+
+  pub step-most : (st : State S) (piece : List ℕ) → stepOf judge st piece .taken ≤ heldSize
+  unfolding stepOf
+  step-most (live s held) piece = framed-most s held piece (frame (held ++ piece)) refl
+  step-most (ended s held) piece = omega arith
+  step-most (refused s held e n) piece = omega arith
 
   -- ONE CALL is the reading of exactly the bytes that it takes
   pub step-taken : (st : State S) (piece : List ℕ) → Unfinished st → reading judge st (take (stepOf judge st piece .taken) piece) ≡ told (stepOf judge st piece)

@@ -101,11 +101,12 @@ pub fn room(used: usize, len: usize) -> usize
 }
 
 // The held bytes, with the first n bytes of a piece behind those that are used.
-pub fn joined(held: [u8; HELD_SIZE], used: usize, piece: &[u8], n: usize) -> [u8; HELD_SIZE]
-    requires { ⌜ (used + n ≤ heldSize) × (n ≤ length (now piece)) ⌝ }
-    ensures { λ r. ⌜ r ≡ overlay held used (part (now (piece .entry)) 0 n) ⌝ }
+pub fn joined(held: &[u8], used: usize, piece: &[u8], n: usize) -> [u8; HELD_SIZE]
+    requires { ⌜ (length (now held) ≡ heldSize) × ((used + n ≤ heldSize) × (n ≤ length (now piece))) ⌝ }
+    ensures { λ r. ⌜ r ≡ overlay (now (held .entry)) used (part (now (piece .entry)) 0 n) ⌝ }
 {
-    let mut out = held;
+    let mut out = [0u8; HELD_SIZE];
+    field::copy(held, 0, HELD_SIZE, &mut out, 0);
     field::copy(piece, 0, n, &mut out, used);
     out
 }

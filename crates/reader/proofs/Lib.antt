@@ -1,3 +1,4 @@
 pub mod Ways
 pub mod Limits
 pub mod Pieces
+pub mod Lent

@@ -203,9 +203,8 @@ module _ (r : Reader) (memory piece : List ℕ) {w : Bool} (e : w ≡ withinLimi
       unfolding stepOf
       step-ended s h k g = rw (goes, g) (simp (eq-eqb (r .refusal) 0 h, k, held-length))
 
-    pub step-live : (s : Stepped) (after : List ℕ) → r .refusal ≡ 0 → r .ended ≡ false
-        → seenOf s after ≡ seen (stepOf (soupBinTCP deliver) (liveOf r memory) piece) → Stepping r memory piece s after
-    step-live s after h k g = rw goes (simp (eq-eqb (r .refusal) 0 h, k) g)
+    pub goes-live : r .refusal ≡ 0 → r .ended ≡ false → seen (stepOf (soupBinTCP deliver) (liveOf r memory) piece) ≡ stepAll r memory piece
+    goes-live h k = rw goes (simp (eq-eqb (r .refusal) 0 h, k))
 
 -- ---- the ways through starting
 

@@ -20,6 +20,7 @@ use Rattle.message.specs.declared.Refusal as messageRefusal
 use Rattle.packet.specs.Stream as stream
 use Rattle.packet.specs.Stream.{live, accept, finish, refuse, stepJudged}
 use Rattle.packet.specs.Refusals.{faultNumber}
+use Rattle.handle.specs.declared.Head.{Head}
 use Rattle.packet.specs.Line.{packetOf, counted}
 use Rattle.packet.specs.Session.{Session, Event, delivered, does, soupBinTCP}
 use Rattle.packet.specs.declared.Line.{Line}
@@ -37,7 +38,7 @@ use Rattle.table.specs.declared.Verdict as tableVerdict
 use Rattle.table.specs.declared.Verdict.the-variants as table
 use Rattle.reader.specs.Refusals.{refusalNumber, named}
 use Rattle.reader.specs.Deliver.{Table, tableOf, Said, said, settledBy, settled, heard, deliver}
-use Rattle.reader.specs.View.{noSession, sessionOf, Seen, beside, outcomeOf, judgedOf, quietOf, loginOf, seenOf, seen, closedOf, handedOf, moreOf}
+use Rattle.reader.specs.View.{noSession, sessionOf, Seen, beside, outcomeOf, judgedOf, quietOf, loginOf, seenOf, seen, closedOf, Closing, BadClosing, handedOf, moreOf}
 use Rattle.reader.specs.declared.Refusal.{Refusal}
 use Rattle.reader.specs.declared.Refusal.the-variants as refusal
 use Rattle.reader.specs.declared.Event as code
@@ -48,6 +49,7 @@ use Rattle.reader.specs.declared.verdicts.Outcome.the-variants.{Accept, 
 use Rattle.reader.specs.declared.verdicts.Verdict.{Verdict}
 use Rattle.reader.specs.declared.StepAnswer.the-variants as answer
 use Rattle.reader.specs.declared.Stepped.{Stepped}
+use Rattle.reader.specs.declared.Moved.{Moved}
 
 -- ---- names and numbers
 
@@ -73,30 +75,26 @@ some-number refusal.TableFull = refl
 
 -- ---- a packet that was judged
 
-module _ (v : Verdict) (held : List ℕ) (taken : ℕ) (s : Stepped) where
+module _ (v : Verdict) (taken : ℕ) (m : Moved) where
   abbrev as-if : outcomes.Outcome → List ℕ → Seen
   as-if o t = record { step = stepJudged taken (outcomeOf (v .texts) (sessionOf (v .line) (v .board) t) o); used = 0; texts = v .texts }
 
   by : {o : outcomes.Outcome} → v .outcome ≡ o → (t : List ℕ) → as-if o t ≡ closedOf taken (judgedOf v t)
   by f t = ap (λ (o : outcomes.Outcome). as-if o t) (sym f)
 
-  pub closed-accepted : {e : code.Event} → v .outcome ≡ Accept e → s ≡ handedOf v held taken false 0 (answer.Event e)
-      → (t : List ℕ) → seenOf s t ≡ closedOf taken (judgedOf v t)
-  closed-accepted f g t = rw g (by f t)
+  pub closed-accepted : {e : code.Event} → v .outcome ≡ Accept e → m ≡ handedOf v taken false 0 (answer.Event e) → Closing v taken m
+  closed-accepted f g held t = rw g (by f t)
 
-  pub closed-finished : {e : code.Event} → v .outcome ≡ Finish e → s ≡ handedOf v held taken true 0 (answer.Event e)
-      → (t : List ℕ) → seenOf s t ≡ closedOf taken (judgedOf v t)
-  closed-finished f g t = rw g (by f t)
+  pub closed-finished : {e : code.Event} → v .outcome ≡ Finish e → m ≡ handedOf v taken true 0 (answer.Event e) → Closing v taken m
+  closed-finished f g held t = rw g (by f t)
 
-  pub closed-refused : {r : Refusal} {n : ℕ} → v .outcome ≡ Refuse r → n ≡ refusalNumber r
-      → s ≡ handedOf v held taken false n (answer.Refused r) → (t : List ℕ) → seenOf s t ≡ closedOf taken (judgedOf v t)
-  closed-refused {r} f h g t = rw (g, h, some-number r) (by f t)
+  pub closed-refused : {r : Refusal} {n : ℕ} → v .outcome ≡ Refuse r → n ≡ refusalNumber r → m ≡ handedOf v taken false n (answer.Refused r) → Closing v taken m
+  closed-refused {r} f h g held t = rw (g, h, some-number r) (by f t)
 
 -- a length that no packet has
-pub closed-bad : (line : Line) (board : Board) (taken : ℕ) (v : Verdict) (s : Stepped) → v ≡ quietOf line board (Refuse refusal.BadPacketLength)
-    → ((t : List ℕ) → seenOf s t ≡ closedOf taken (judgedOf v t))
-    → (t : List ℕ) → seenOf s t ≡ seen (stepJudged taken (refuse (faultNumber BadLength) (sessionOf line board t)))
-closed-bad line board taken v s e f t = rw e at (f t)
+pub closed-bad : (h : Head) (taken : ℕ) (v : Verdict) (m : Moved) → v ≡ quietOf (h .line) (h .board) (Refuse refusal.BadPacketLength)
+    → Closing v taken m → BadClosing h taken m
+closed-bad h taken v m e f held t = rw e at (f held t)
 
 -- ---- a message
 

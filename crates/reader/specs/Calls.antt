@@ -4,21 +4,24 @@ use Prim.Native.Nat.{ℕ}
 use mathlib.Core.Path.{_≡_}
 use mathlib.Core.Bool.{cond}
 use mathlib.Core.List.{List, []}
+use Rattle.field.specs.Bytes.{part, overlay}
 use Rattle.packet.specs.Stream as stream
 use Rattle.packet.specs.Stream.{State, live, stepOf}
-use Rattle.packet.specs.Session.{Session, soupBinTCP}
+use Rattle.packet.specs.Session.{Session, Event, soupBinTCP}
 use Rattle.packet.specs.Line.{freshLine}
 use Rattle.table.specs.Board as tables
 use Rattle.table.specs.Board.{Outcome, startOf}
 use Rattle.table.specs.declared.Verdict.{Verdict}
 use Rattle.table.specs.declared.Verdict.the-variants.{Accepted, Refused}
 use Rattle.reader.specs.Refusals.{refusalNumber}
-use Rattle.reader.specs.Deliver.{Table, deliver}
-use Rattle.reader.specs.View.{noText, sessionOf, stateOf, Seen, seenOf, seen}
+use Rattle.handle.specs.declared.Head.{Head}
+use Rattle.reader.specs.Deliver.{Table, Said, deliver}
+use Rattle.reader.specs.View.{noText, sessionOf, readerWith, stateOf, liveOf, Seen, seenOf, seen, steppedWith}
 use Rattle.reader.specs.Limits.{withinLimits}
 use Rattle.reader.specs.declared.Refusal.the-variants.{Unfit}
 use Rattle.reader.specs.declared.Reader.{Reader}
 use Rattle.reader.specs.declared.Stepped.{Stepped}
+use Rattle.reader.specs.declared.Moved.{Moved}
 use Rattle.reader.specs.declared.StartAnswer.{StartAnswer}
 use Rattle.reader.specs.declared.StartAnswer.the-variants as answer
 use Rattle.reader.specs.declared.Started.{Started}
@@ -42,6 +45,39 @@ stepAll r memory piece =
 -- THE PROMISE OF A STEP: a reader and memory were given with a piece, and an answer and memory came back
 abbrev pub Stepping : Reader → List ℕ → List ℕ → Stepped → List ℕ → Type 0
 Stepping r memory piece s after = seenOf s after ≡ stepAll r memory piece
+
+-- ---- A STEP ON LENT PLACES OF HELD BYTES
+
+-- where more is wanted, what was taken stands behind the bytes that are held; any other answer leaves the places
+abbrev pub placesBy : stream.Answer (Event Said) → List ℕ → List ℕ → List ℕ
+placesBy (stream.Event e) held put = held
+placesBy stream.More held put = put
+placesBy stream.Ended held put = held
+placesBy (stream.Refused n) held put = held
+
+abbrev pub placesAfter : List ℕ → ℕ → List ℕ → Seen → List ℕ
+placesAfter held used piece x = placesBy (x .step .answer) held (overlay held used (part piece 0 (x .step .taken)))
+
+-- a call, and the places that it leaves
+pub record Lent : Type 0 where
+  pub call : Seen
+  pub held : List ℕ
+
+abbrev pub lentOf : Moved → List ℕ → List ℕ → Lent
+lentOf m held memory = record { call = seenOf (steppedWith m held) memory; held = held }
+
+abbrev pub lentBy : List ℕ → ℕ → List ℕ → Seen → Lent
+lentBy held used piece x = record { call = x; held = placesAfter held used piece x }
+
+-- a live reader within its limits
+abbrev pub LiveStepping : Head → List ℕ → List ℕ → List ℕ → Moved → List ℕ → List ℕ → Type 0
+LiveStepping h held memory piece m held′ memory′ =
+    lentOf m held′ memory′ ≡ lentBy held (h .used) piece (seen (stepOf (soupBinTCP deliver) (liveOf (readerWith h held) memory) piece))
+
+-- THE PROMISE OF A STEP ON LENT PLACES
+abbrev pub LentStepping : Head → List ℕ → List ℕ → List ℕ → Moved → List ℕ → List ℕ → Type 0
+LentStepping h held memory piece m held′ memory′ =
+    lentOf m held′ memory′ ≡ lentBy held (h .used) piece (stepAll (readerWith h held) memory piece)
 
 -- ---- STARTING
 

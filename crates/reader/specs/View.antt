@@ -1,6 +1,7 @@
 -- The code's values as those of the definitions.
 -- Assumes nothing.
 use Prim.Native.Nat.{ℕ}
+use mathlib.Core.Path.{_≡_}
 use mathlib.Core.Bool.{Bool, false, cond}
 use mathlib.Core.List.{List}
 use lib.Dec.{eqb}
@@ -12,8 +13,11 @@ use Rattle.packet.specs.Session as packets
 use Rattle.packet.specs.Session.{Session, Event}
 use Rattle.packet.specs.Frame.{heldSize}
 use Rattle.packet.specs.Line.{loggedIn}
+use Rattle.packet.specs.Refusals.{faultNumber}
+use Rattle.packet.specs.declared.Fault.the-variants.{BadLength}
 use Rattle.packet.specs.declared.Line.{Line}
 use Rattle.table.specs.declared.Board.{Board}
+use Rattle.handle.specs.declared.Head.{Head}
 use Rattle.reader.specs.Deliver.{Table, tableOf, Said, said}
 use Rattle.reader.specs.Refusals.{refusalNumber}
 use Rattle.reader.specs.declared.Texts.{Texts}
@@ -26,6 +30,7 @@ use Rattle.reader.specs.declared.Reader.{Reader}
 use Rattle.reader.specs.declared.StepAnswer.{StepAnswer}
 use Rattle.reader.specs.declared.StepAnswer.the-variants as answer
 use Rattle.reader.specs.declared.Stepped.{Stepped}
+use Rattle.reader.specs.declared.Moved.{Moved}
 
 -- ---- a session: the line, and the table that its messages are about
 
@@ -96,6 +101,14 @@ loginOf line board n session =
 
 -- ---- a reader
 
+-- its head, and the places of held bytes beside it
+abbrev pub readerWith : Head → List ℕ → Reader
+readerWith h held =
+    record { line = h .line; board = h .board; ended = h .ended; refusal = h .refusal; used = h .used; held = held }
+
+abbrev pub headPart : Reader → Head
+headPart r = record { line = r .line; board = r .board; ended = r .ended; refusal = r .refusal; used = r .used }
+
 -- Of what it holds, only what is used counts: places past the held bytes do not. A refusal of 0 is none; a handle that says that it has ended and
 -- refused, which no call makes, has refused.
 abbrev pub stateAt : ℕ → Bool → Session Table → List ℕ → State (Session Table)
@@ -150,17 +163,7 @@ seen s = record { step = s; used = length (heldIn (s .state)); texts = answerTex
 abbrev pub closedOf : ℕ → Judged → Seen
 closedOf taken j = record { step = stepJudged taken (j .verdict); used = 0; texts = j .texts }
 
--- the code's answer to it: nothing is held
-abbrev pub handedOf : Verdict → List ℕ → ℕ → Bool → ℕ → StepAnswer → Stepped
-handedOf v held taken end refusal a =
-    record {
-      reader = record { line = v .line; board = v .board; ended = end; refusal = refusal; used = 0; held = held };
-      taken = taken;
-      answer = a;
-      texts = v .texts;
-    }
-
--- and where more is wanted
+-- the code's answer where more is wanted
 abbrev pub moreOf : Reader → List ℕ → ℕ → ℕ → Stepped
 moreOf r held used taken =
     record {
@@ -173,6 +176,46 @@ moreOf r held used taken =
 -- a call that takes nothing and leaves the handle
 abbrev pub stillOf : Reader → StepAnswer → Stepped
 stillOf r a = record { reader = r; taken = 0; answer = a; texts = noText }
+
+-- ---- a call on lent places of held bytes
+
+-- as a call by value, that hands back these places
+abbrev pub steppedWith : Moved → List ℕ → Stepped
+steppedWith m held = record { reader = readerWith (m .head) held; taken = m .taken; answer = m .answer; texts = m .texts }
+
+-- a call that ends with a packet that was judged; nothing is held, so that the places do not count
+abbrev pub Closing : Verdict → ℕ → Moved → Type 0
+Closing v taken m = (held memory : List ℕ) → seenOf (steppedWith m held) memory ≡ closedOf taken (judgedOf v memory)
+
+-- one that ends with a length that no packet has
+abbrev pub BadClosing : Head → ℕ → Moved → Type 0
+BadClosing h taken m =
+    (held memory : List ℕ)
+    → seenOf (steppedWith m held) memory ≡ seen (stepJudged taken (refuse (faultNumber BadLength) (sessionOf (h .line) (h .board) memory)))
+
+-- the code's answer to a packet that was judged: nothing is held
+abbrev pub handedOf : Verdict → ℕ → Bool → ℕ → StepAnswer → Moved
+handedOf v taken end refusal a =
+    record {
+      head = record { line = v .line; board = v .board; ended = end; refusal = refusal; used = 0 };
+      taken = taken;
+      answer = a;
+      texts = v .texts;
+    }
+
+-- and where more is wanted
+abbrev pub moreMoved : Head → ℕ → ℕ → Moved
+moreMoved h used taken =
+    record {
+      head = record { line = h .line; board = h .board; ended = false; refusal = 0; used = used };
+      taken = taken;
+      answer = answer.More;
+      texts = noText;
+    }
+
+-- a call that takes nothing and leaves the handle
+abbrev pub stillMoved : Head → StepAnswer → Moved
+stillMoved h a = record { head = h; taken = 0; answer = a; texts = noText }
 
 -- a handle that holds nothing and has neither ended nor refused
 abbrev pub readyOf : Line → Board → Reader

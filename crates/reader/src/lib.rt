@@ -1,6 +1,7 @@
 // The reader: a handle by value with the bytes of a packet that is not whole yet; it is started, stepped, and handed back.
 use crate::verdicts::Outcome;
 use crate::verdicts::Verdict;
+use handle::Head;
 use image::Header;
 use image::Saved;
 use packet::Framing;
@@ -8,16 +9,11 @@ use packet::HELD_SIZE;
 use packet::Line;
 use table::Board;
 ghost use mathlib.Core.Path.{_≡_};
-ghost use mathlib.Core.List.{List};
-ghost use Prim.Native.Nat.{ℕ};
-ghost use Rattle.packet.specs.Stream.{refuse, stepJudged, stepOf};
-ghost use Rattle.packet.specs.Session.{soupBinTCP};
-ghost use Rattle.packet.specs.Refusals.{faultNumber};
-ghost use Rattle.packet.specs.declared.Fault.the-variants.{BadLength};
-ghost use Rattle.reader.specs.Deliver.{deliver};
-ghost use Rattle.reader.specs.View.{noText, sessionOf, judgedOf, liveOf, seenOf, seen, closedOf, handedOf, moreOf, stillOf, readyOf};
+ghost use lib.ListN.{length};
+ghost use Rattle.packet.specs.Frame.{heldSize};
+ghost use Rattle.reader.specs.View.{noText, readerWith, headPart, handedOf, moreMoved, stillMoved, readyOf, Closing, BadClosing};
 ghost use Rattle.reader.specs.Limits.{holdsUnfinished, withinLimits, Fit};
-ghost use Rattle.reader.specs.Calls.{Stepping, Starting};
+ghost use Rattle.reader.specs.Calls.{LiveStepping, LentStepping, Stepping, Starting};
 ghost use Rattle.reader.specs.Saving.{lineOf, Saves, Restores};
 
 pub mod refusals;
@@ -84,6 +80,14 @@ pub struct Stepped {
     pub texts: Texts,
 }
 
+// What a step on lent places of held bytes hands back: the head, and the count of bytes taken.
+pub struct Moved {
+    pub head: Head,
+    pub taken: usize,
+    pub answer: StepAnswer,
+    pub texts: Texts,
+}
+
 pub enum StartAnswer {
     Ready,
     Refused(Refusal),
@@ -110,11 +114,11 @@ pub fn no_text() -> Texts
 }
 
 // A call that takes nothing and leaves the handle.
-fn still(reader: Reader, answer: StepAnswer) -> Stepped
-    ensures { λ s. ⌜ s ≡ stillOf reader answer ⌝ }
+fn still(head: Head, answer: StepAnswer) -> Moved
+    ensures { λ m. ⌜ m ≡ stillMoved head answer ⌝ }
 {
-    Stepped {
-        reader,
+    Moved {
+        head,
         taken: 0,
         answer,
         texts: no_text(),
@@ -122,27 +126,19 @@ fn still(reader: Reader, answer: StepAnswer) -> Stepped
 }
 
 // A call that ends with a packet: nothing is held.
-fn handed(
-    v: Verdict,
-    held: [u8; HELD_SIZE],
-    taken: usize,
-    ended: bool,
-    refusal: u8,
-    answer: StepAnswer,
-) -> Stepped
-    ensures { λ s. ⌜ s ≡ handedOf v held taken ended refusal answer ⌝ }
+fn handed(v: Verdict, taken: usize, ended: bool, refusal: u8, answer: StepAnswer) -> Moved
+    ensures { λ m. ⌜ m ≡ handedOf v taken ended refusal answer ⌝ }
 {
     let line = v.line;
     let board = v.board;
     let texts = v.texts;
-    Stepped {
-        reader: Reader {
+    Moved {
+        head: Head {
             line,
             board,
             ended,
             refusal,
             used: 0,
-            held,
         },
         taken,
         answer,
@@ -151,52 +147,42 @@ fn handed(
 }
 
 // A packet was judged, and so many bytes of the piece were taken.
-fn closed(v: Verdict, held: [u8; HELD_SIZE], taken: usize) -> Stepped
-    ensures { λ s. ⌜ ((t : List ℕ) → seenOf s t ≡ closedOf taken (judgedOf v t)) ⌝ }
+fn closed(v: Verdict, taken: usize) -> Moved
+    ensures { λ m. ⌜ Closing v taken m ⌝ }
 {
     let outcome = v.outcome;
     match outcome {
-        Outcome::Accept(e) => handed(v, held, taken, false, 0, StepAnswer::Event(e)),
-        Outcome::Finish(e) => handed(v, held, taken, true, 0, StepAnswer::Event(e)),
-        Outcome::Refuse(r) => handed(
-            v,
-            held,
-            taken,
-            false,
-            refusals::number(r),
-            StepAnswer::Refused(r),
-        ),
+        Outcome::Accept(e) => handed(v, taken, false, 0, StepAnswer::Event(e)),
+        Outcome::Finish(e) => handed(v, taken, true, 0, StepAnswer::Event(e)),
+        Outcome::Refuse(r) => handed(v, taken, false, refusals::number(r), StepAnswer::Refused(r)),
     }
 }
 
 // A length that no packet has, known by its second byte.
-fn bad_length(r: Reader, taken: usize) -> Stepped
-    ensures { λ s. ⌜ ((t : List ℕ) → seenOf s t ≡ seen (stepJudged taken (refuse (faultNumber BadLength) (sessionOf (r .line) (r .board) t)))) ⌝ }
+fn bad_length(head: Head, taken: usize) -> Moved
+    ensures { λ m. ⌜ BadClosing head taken m ⌝ }
 {
-    let line = r.line;
-    let board = r.board;
-    let held = r.held;
+    let line = head.line;
+    let board = head.board;
     closed(
         verdicts::quiet(line, board, Outcome::Refuse(Refusal::BadPacketLength)),
-        held,
         taken,
     )
 }
 
 // A piece that was taken whole, and its packet is not whole yet.
-fn more(r: Reader, held: [u8; HELD_SIZE], used: usize, taken: usize) -> Stepped
-    ensures { λ s. ⌜ s ≡ moreOf r held used taken ⌝ }
+fn more(head: Head, used: usize, taken: usize) -> Moved
+    ensures { λ m. ⌜ m ≡ moreMoved head used taken ⌝ }
 {
-    let line = r.line;
-    let board = r.board;
-    Stepped {
-        reader: Reader {
+    let line = head.line;
+    let board = head.board;
+    Moved {
+        head: Head {
             line,
             board,
             ended: false,
             refusal: 0,
             used,
-            held,
         },
         taken,
         answer: StepAnswer::More,
@@ -205,49 +191,108 @@ fn more(r: Reader, held: [u8; HELD_SIZE], used: usize, taken: usize) -> Stepped
 }
 
 // Nothing is held: a whole packet is judged where it lies in the piece.
-fn straight(r: Reader, piece: &[u8], table: &mut [u8]) -> Stepped
-    requires { ⌜ Fit r × (r .used ≡ 0) ⌝ }
-    ensures { λ s. ⌜ seenOf s (now (table .exit)) ≡ seen (stepOf (soupBinTCP deliver) (liveOf r (now (table .entry))) (now (piece .entry))) ⌝ }
+fn straight(head: Head, held: &mut [u8], piece: &[u8], table: &mut [u8]) -> Moved
+    requires { ⌜ Fit (readerWith head (now held)) × ((head .used ≡ 0) × (length (now held) ≡ heldSize)) ⌝ }
+    ensures { λ m. ⌜ LiveStepping head (now (held .entry)) (now (table .entry)) (now (piece .entry)) m (now (held .exit)) (now (table .exit)) ⌝ }
 {
-    let line = r.line;
-    let board = r.board;
-    let held = r.held;
+    let line = head.line;
+    let board = head.board;
     match packet::front(piece) {
         Framing::Short => {
             let taken = piece.len();
-            more(r, packet::joined(held, 0, piece, taken), taken, taken)
+            field::copy(piece, 0, taken, held, 0);
+            more(head, taken, taken)
         }
-        Framing::BadLength => bad_length(r, 2),
+        Framing::BadLength => bad_length(head, 2),
         Framing::Whole(size) => {
             let end = size + 2;
             let v = verdicts::act(line, board, piece[2], &piece[3..end], table);
-            closed(v, held, end)
+            closed(v, end)
         }
     }
 }
 
-// The start of a packet is held: what there is room for of the piece is copied behind it.
-fn mended(r: Reader, piece: &[u8], table: &mut [u8]) -> Stepped
-    requires { ⌜ Fit r ⌝ }
-    ensures { λ s. ⌜ seenOf s (now (table .exit)) ≡ seen (stepOf (soupBinTCP deliver) (liveOf r (now (table .entry))) (now (piece .entry))) ⌝ }
+// The start of a packet is held: what there is room for of the piece is joined to a copy of it.
+fn mended(head: Head, held: &mut [u8], piece: &[u8], table: &mut [u8]) -> Moved
+    requires { ⌜ Fit (readerWith head (now held)) × (length (now held) ≡ heldSize) ⌝ }
+    ensures { λ m. ⌜ LiveStepping head (now (held .entry)) (now (table .entry)) (now (piece .entry)) m (now (held .exit)) (now (table .exit)) ⌝ }
 {
-    let line = r.line;
-    let board = r.board;
-    let held = r.held;
-    let used = r.used;
+    let line = head.line;
+    let board = head.board;
+    let used = head.used;
     let n = packet::room(used, piece.len());
     let all = packet::joined(held, used, piece, n);
     let end = used + n;
     let bytes = &all[..end];
     match packet::front(bytes) {
-        Framing::Short => more(r, all, end, n),
-        Framing::BadLength => bad_length(r, 2 - used),
+        Framing::Short => {
+            field::copy(piece, 0, n, held, used);
+            more(head, end, n)
+        }
+        Framing::BadLength => bad_length(head, 2 - used),
         Framing::Whole(size) => {
             let stop = size + 2;
             let v = verdicts::act(line, board, bytes[2], &bytes[3..stop], table);
-            closed(v, held, stop - used)
+            closed(v, stop - used)
         }
     }
+}
+
+// Are the held bytes those of an unfinished packet?
+fn holds_unfinished(head: Head, held: &[u8]) -> bool
+    requires { ⌜ length (now held) ≡ heldSize ⌝ }
+    ensures { λ r. ⌜ r ≡ holdsUnfinished (readerWith head (now (held .entry))) ⌝ }
+{
+    let used = head.used;
+    if HELD_SIZE < used {
+        return false;
+    }
+    match packet::front(&held[..used]) {
+        Framing::Short => true,
+        Framing::BadLength => false,
+        Framing::Whole(_) => false,
+    }
+}
+
+// Does the handle keep its limits, with that table memory?
+pub fn within_limits(head: Head, held: &[u8], table: &[u8]) -> bool
+    requires { ⌜ length (now held) ≡ heldSize ⌝ }
+    ensures { λ r. ⌜ r ≡ withinLimits (readerWith head (now (held .entry))) (now (table .entry)) ⌝ }
+{
+    if table.len() != table::TABLE_SIZE {
+        return false;
+    }
+    if table::MOST_ROWS < head.board.rows {
+        return false;
+    }
+    if !field::limits::number_in_range(head.line.next) {
+        return false;
+    }
+    if !holds_unfinished(head, held) {
+        return false;
+    }
+    refusals::stands(head.refusal)
+}
+
+// Takes at most one packet of the piece. The places of held bytes are lent: those that more is wanted for are put there.
+pub fn step(head: Head, held: &mut [u8], piece: &[u8], table: &mut [u8]) -> Moved
+    requires { ⌜ length (now held) ≡ heldSize ⌝ }
+    ensures { λ m. ⌜ LentStepping head (now (held .entry)) (now (table .entry)) (now (piece .entry)) m (now (held .exit)) (now (table .exit)) ⌝ }
+{
+    if !within_limits(head, held, table) {
+        return still(head, StepAnswer::Refused(Refusal::Unfit));
+    }
+    let refusal = head.refusal;
+    if refusal != 0 {
+        return still(head, StepAnswer::Refused(refusals::named(refusal)));
+    }
+    if head.ended {
+        return still(head, StepAnswer::Ended);
+    }
+    if head.used == 0 {
+        return straight(head, held, piece, table);
+    }
+    mended(head, held, piece, table)
 }
 
 // A handle that holds nothing and has neither ended nor refused.
@@ -276,39 +321,35 @@ fn restored_line(h: Header) -> Line
 }
 
 impl Reader {
-    // Are the held bytes those of an unfinished packet?
-    fn holds_unfinished(self) -> bool
-        ensures { λ r. ⌜ r ≡ holdsUnfinished self ⌝ }
+    // The handle but for the places of its held bytes.
+    pub fn head(self) -> Head
+        ensures { λ h. ⌜ h ≡ headPart self ⌝ }
     {
-        let held = self.held;
-        let used = self.used;
-        if HELD_SIZE < used {
-            return false;
-        }
-        match packet::front(&held[..used]) {
-            Framing::Short => true,
-            Framing::BadLength => false,
-            Framing::Whole(_) => false,
+        let line = self.line;
+        let board = self.board;
+        Head {
+            line,
+            board,
+            ended: self.ended,
+            refusal: self.refusal,
+            used: self.used,
         }
     }
 
-    // Does the handle keep its limits, with that table memory?
-    fn within_limits(self, table: &[u8]) -> bool
-        ensures { λ r. ⌜ r ≡ withinLimits self (now (table .entry)) ⌝ }
+    // A head and the places of held bytes beside it.
+    pub fn with(head: Head, held: [u8; HELD_SIZE]) -> Reader
+        ensures { λ r. ⌜ r ≡ readerWith head held ⌝ }
     {
-        if table.len() != table::TABLE_SIZE {
-            return false;
+        let line = head.line;
+        let board = head.board;
+        Reader {
+            line,
+            board,
+            ended: head.ended,
+            refusal: head.refusal,
+            used: head.used,
+            held,
         }
-        if table::MOST_ROWS < self.board.rows {
-            return false;
-        }
-        if !field::limits::number_in_range(self.line.next) {
-            return false;
-        }
-        if !self.holds_unfinished() {
-            return false;
-        }
-        refusals::stands(self.refusal)
     }
 
     // Fills the table with zeros.
@@ -335,27 +376,25 @@ impl Reader {
     pub fn step(self, piece: &[u8], table: &mut [u8]) -> Stepped
         ensures { λ s. ⌜ Stepping self (now (table .entry)) (now (piece .entry)) s (now (table .exit)) ⌝ }
     {
-        if !self.within_limits(table) {
-            return still(self, StepAnswer::Refused(Refusal::Unfit));
+        let mut held = self.held;
+        let moved = step(self.head(), &mut held, piece, table);
+        let head = moved.head;
+        let answer = moved.answer;
+        let texts = moved.texts;
+        Stepped {
+            reader: Reader::with(head, held),
+            taken: moved.taken,
+            answer,
+            texts,
         }
-        let refusal = self.refusal;
-        if refusal != 0 {
-            return still(self, StepAnswer::Refused(refusals::named(refusal)));
-        }
-        if self.ended {
-            return still(self, StepAnswer::Ended);
-        }
-        if self.used == 0 {
-            return straight(self, piece, table);
-        }
-        mended(self, piece, table)
     }
 
     // The image of the table to the front of `out`. Held bytes and a standing refusal are not saved.
     pub fn save(self, table: &[u8], out: &mut [u8]) -> Saved
         ensures { λ r. ⌜ Saves self (now (table .entry)) (now (out .entry)) r (now (out .exit)) ⌝ }
     {
-        if !self.within_limits(table) {
+        let held = self.held;
+        if !within_limits(self.head(), &held, table) {
             return Saved::Unsaved(image::Refusal::Misfit);
         }
         let line = self.line;

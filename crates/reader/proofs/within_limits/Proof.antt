@@ -1,7 +1,9 @@
+-- `reader::within_limits` meets its contract.
+-- Assumes nothing.
 use borrow.Author.Needs.{needs}
 use Rattle.reader.proofs.Limits.{within-size, within-rows, within-number, within-held, within-stands}
-use Rattle.reader.proofs.Reader.within_limits.Statement.{statement}
-use Rattle.reader.proofs.Reader.within_limits.Tie as tie
+use Rattle.reader.proofs.within_limits.Statement.{statement}
+use Rattle.reader.proofs.within_limits.Tie as tie
 
 returns : tie.Need-returns
 returns c = search within-size

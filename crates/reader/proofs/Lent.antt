@@ -1,0 +1,141 @@
+-- A call on lent places of held bytes is a call by value that also leaves the places as it was promised.
+-- Assumes nothing.
+use mathlib.Core.Path.{_≡_, refl, sym, ap, _∙_}
+use mathlib.Core.List.{List}
+use mathlib.Core.Bool.{Bool, true, false, not}
+use Prim.Native.Nat.{ℕ, _+_, _-_}
+use lib.ListN.{length, take, drop, getD}
+use Rattle.field.specs.Bytes.{part, overlay}
+use Rattle.packet.specs.Frame.{frame, frontOf, heldSize, roomFor}
+use Rattle.packet.specs.Session.{soupBinTCP}
+use Rattle.packet.specs.declared.Framing.{Framing}
+use Rattle.packet.specs.declared.Framing.the-variants as front
+use Rattle.packet.specs.Stream as stream
+use Rattle.packet.specs.Stream.{accept, finish, refuse, stepJudged}
+use Rattle.packet.specs.Session.{Session, Event}
+use Rattle.handle.specs.declared.Head.{Head}
+use Rattle.reader.specs.Refusals.{named}
+use Rattle.reader.specs.Deliver.{Table, Said, deliver}
+use Rattle.reader.specs.View.{sessionOf, readerWith, headPart, Seen, seenOf, beside, judgedOf, closedOf, steppedWith, Closing, BadClosing, moreMoved, stillMoved}
+use Rattle.reader.specs.Limits.{withinLimits, Fit}
+use Rattle.reader.specs.Calls.{stepAll, placesBy, placesAfter, Lent, lentOf, lentBy, LiveStepping, LentStepping, Stepping}
+use Rattle.reader.specs.declared.Refusal.{Refusal}
+use Rattle.reader.specs.declared.Refusal.the-variants as refusal
+use Rattle.reader.specs.declared.StepAnswer.the-variants as answer
+use Rattle.reader.specs.declared.verdicts.Verdict.{Verdict}
+use Rattle.reader.specs.declared.Moved.{Moved}
+use Rattle.reader.specs.declared.Reader.{Reader}
+use Rattle.reader.proofs.Limits.{step-unfit, step-refused, step-ended, goes-live}
+use Rattle.reader.proofs.Pieces.{straight-short, straight-bad, straight-whole, mended-short, mended-bad, mended-whole}
+
+-- ---- the places, by what a call is seen to do
+
+module _ (h : Head) (held piece : List ℕ) (m : Moved) (held′ memory′ : List ℕ) where
+  lent : {x : Seen} → seenOf (steppedWith m held′) memory′ ≡ x → held′ ≡ placesAfter held (h .used) piece (seenOf (steppedWith m held′) memory′)
+      → lentOf m held′ memory′ ≡ lentBy held (h .used) piece x
+  lent e f = ap (λ (y : List ℕ). record { call = seenOf (steppedWith m held′) memory′; held = y }) f ∙ ap (lentBy held (h .used) piece) e
+
+-- a packet that was judged leaves them
+judged-places : (n : ℕ) (v : stream.Verdict (Session Table) (Event Said)) (held put : List ℕ) → held ≡ placesBy (stepJudged n v .answer) held put
+judged-places n (accept e s) held put = refl
+judged-places n (finish e s) held put = refl
+judged-places n (refuse k s) held put = refl
+
+module _ (h : Head) (held piece : List ℕ) (m : Moved) where
+  closed-places : (v : Verdict) (n : ℕ) (memory : List ℕ) → Closing v n m → held ≡ placesAfter held (h .used) piece (seenOf (steppedWith m held) memory)
+  closed-places v n memory c = judged-places n (judgedOf v memory .verdict) held _ ∙ ap (placesAfter held (h .used) piece) (sym (c held memory))
+
+  bad-places : (n : ℕ) (memory : List ℕ) → BadClosing h n m → held ≡ placesAfter held (h .used) piece (seenOf (steppedWith m held) memory)
+  bad-places n memory c = ap (placesAfter held (h .used) piece) (sym (c held memory))
+
+  more-places : (used n : ℕ) (held′ memory : List ℕ) → m ≡ moreMoved h used n → held′ ≡ overlay held (h .used) (part piece 0 n)
+      → held′ ≡ placesAfter held (h .used) piece (seenOf (steppedWith m held′) memory)
+  more-places used n held′ memory e f = rw e f
+
+-- ---- nothing is held
+
+module _ (h : Head) (held piece t : List ℕ) {w : Framing} (m : Moved) (none : h .used ≡ 0) (e : w ≡ frontOf (frame piece)) where
+  pub lent-straight-short : (held′ : List ℕ) → length held ≡ heldSize → w ≡ front.Short → held′ ≡ overlay held 0 (part piece 0 (length piece))
+      → m ≡ moreMoved h (length piece) (length piece) → LiveStepping h held t piece m held′ t
+  lent-straight-short held′ l f g i =
+      lent h held piece m held′ t
+      (straight-short (readerWith h held) piece t (steppedWith m held′) none e held′ l f g (ap (λ (x : Moved). steppedWith x held′) i))
+      (more-places h held piece m (length piece) (length piece) held′ t i (rw none g))
+
+  pub lent-straight-bad : w ≡ front.BadLength → BadClosing h 2 m → LiveStepping h held t piece m held t
+  lent-straight-bad f g =
+      lent h held piece m held t (straight-bad (readerWith h held) piece t (steppedWith m held) none e f (g held)) (bad-places h held piece m 2 t g)
+
+  pub lent-straight-whole : (n : ℕ) (v : Verdict) (t′ : List ℕ) → w ≡ front.Whole n
+      → judgedOf v t′ ≡ beside (soupBinTCP deliver (sessionOf (h .line) (h .board) t) (getD piece 2 0) (take (n + 2 - 3) (drop 3 piece)))
+      → Closing v (n + 2) m → LiveStepping h held t piece m held t′
+  lent-straight-whole n v t′ f g i =
+      lent h held piece m held t′ (straight-whole (readerWith h held) piece t (steppedWith m held) none e n v t′ f g (i held))
+      (closed-places h held piece m v (n + 2) t′ i)
+
+-- ---- the start of a packet is held
+
+module _ (h : Head) (held piece : List ℕ) (n : ℕ) (all : List ℕ) (long : length held ≡ heldSize) (fit : Fit (readerWith h held))
+    (room : n ≡ roomFor (h .used) (length piece)) (joined : all ≡ overlay held (h .used) (part piece 0 n))
+    {w : Framing} (e : w ≡ frontOf (frame (take (h .used + n) all))) (t : List ℕ) (m : Moved) where
+  pub lent-mended-short : (held′ : List ℕ) → w ≡ front.Short → held′ ≡ overlay held (h .used) (part piece 0 n) → m ≡ moreMoved h (h .used + n) n
+      → LiveStepping h held t piece m held′ t
+  lent-mended-short held′ f g i =
+      lent h held piece m held′ t
+      (mended-short (readerWith h held) piece n all long fit room joined e t (steppedWith m held′) f
+      (ap (λ (x : Moved). steppedWith x held′) i ∙ ap (steppedWith (moreMoved h (h .used + n) n)) (g ∙ sym joined)))
+      (more-places h held piece m (h .used + n) n held′ t i g)
+
+  pub lent-mended-bad : w ≡ front.BadLength → BadClosing h (2 - h .used) m → LiveStepping h held t piece m held t
+  lent-mended-bad f g =
+      lent h held piece m held t (mended-bad (readerWith h held) piece n all long fit room joined e t (steppedWith m held) f (g held))
+      (bad-places h held piece m (2 - h .used) t g)
+
+  pub lent-mended-whole : (size : ℕ) (v : Verdict) (t′ : List ℕ) → w ≡ front.Whole size
+      → judgedOf v t′
+      ≡ beside (soupBinTCP deliver (sessionOf (h .line) (h .board) t) (getD (take (h .used + n) all) 2 0) (take (size + 2 - 3) (drop 3 (take (h .used + n) all))))
+      → Closing v (size + 2 - h .used) m → LiveStepping h held t piece m held t′
+  lent-mended-whole size v t′ f g i =
+      lent h held piece m held t′ (mended-whole (readerWith h held) piece n all long fit room joined e t (steppedWith m held) size v t′ f g (i held))
+      (closed-places h held piece m v (size + 2 - h .used) t′ i)
+
+-- ---- the ways through a step
+
+module _ (h : Head) (held memory piece : List ℕ) {w : Bool} (e : w ≡ withinLimits (readerWith h held) memory) where
+  pub lent-unfit : (m : Moved) → not w ≡ true → m ≡ stillMoved h (answer.Refused refusal.Unfit) → LentStepping h held memory piece m held memory
+  lent-unfit m f g =
+      lent h held piece m held memory
+      (step-unfit (readerWith h held) memory piece e (steppedWith m held) f (ap (λ (x : Moved). steppedWith x held) g))
+      (rw g)
+
+  module _ (f : not w ≡ false) where
+    pub lent-refused : length held ≡ heldSize → (m : Moved) (x : Refusal) → (h .refusal ≡ 0 → ⊥) → x ≡ named (h .refusal)
+        → m ≡ stillMoved h (answer.Refused x) → LentStepping h held memory piece m held memory
+    lent-refused l m x i j g =
+        lent h held piece m held memory
+        (step-refused (readerWith h held) memory piece e f l (steppedWith m held) x i j (ap (λ (y : Moved). steppedWith y held) g))
+        (rw g)
+
+    pub lent-ended : length held ≡ heldSize → (m : Moved) → h .refusal ≡ 0 → h .ended ≡ true
+        → m ≡ stillMoved h answer.Ended → LentStepping h held memory piece m held memory
+    lent-ended l m i j g =
+        lent h held piece m held memory
+        (step-ended (readerWith h held) memory piece e f l (steppedWith m held) i j (ap (λ (y : Moved). steppedWith y held) g))
+        (rw g)
+
+    pub lent-live : (m : Moved) (held′ memory′ : List ℕ) → h .refusal ≡ 0 → h .ended ≡ false
+        → LiveStepping h held memory piece m held′ memory′ → LentStepping h held memory piece m held′ memory′
+    lent-live m held′ memory′ i j g = g ∙ ap (lentBy held (h .used) piece) (goes-live (readerWith h held) memory piece e f i j)
+
+-- ---- a call by value is one on places that are lent for it
+
+pub limits-of : (r : Reader) (h : Head) (memory : List ℕ) {w : Bool} → h ≡ headPart r → w ≡ withinLimits (readerWith h (r .held)) memory → w ≡ withinLimits r memory
+limits-of r h memory e f = f ∙ ap (λ (x : Head). withinLimits (readerWith x (r .held)) memory) e
+
+module _ (r : Reader) (memory piece : List ℕ) (m : Moved) (held′ memory′ : List ℕ) where
+  pub by-value : (h : Head) → h ≡ headPart r → LentStepping h (r .held) memory piece m held′ memory′ → (after : Reader) → after ≡ readerWith (m .head) held′
+      → Stepping r memory piece (record { reader = after; taken = m .taken; answer = m .answer; texts = m .texts }) memory′
+  by-value h e f after g =
+      ap (λ (x : Reader). seenOf (record { reader = x; taken = m .taken; answer = m .answer; texts = m .texts }) memory′) g
+      ∙ ap (λ (l : Lent). l .call) f
+      ∙ ap (λ (x : Head). stepAll (readerWith x (r .held)) memory piece) e

@@ -1,0 +1,175 @@
+-- The ways through the code: what it finds, test by test, is what the definitions say.
+-- Assumes nothing.
+use mathlib.Core.Path.{_≡_, refl, sym, ap, _∙_}
+use mathlib.Core.Bool.{Bool, true, false, cond}
+use mathlib.Core.List.{List, [], _∷_}
+use Prim.Native.Nat.{ℕ, _+_, _*_, _≤_}
+use native.Mathlib.Omega.{arith}
+use borrow.Author.Tests.{eq-eqb, ne-eqb}
+use lib.Dec.{eqb, leb}
+use lib.ListN.{length, getD, replicate}
+use Rattle.field.specs.Bytes.{part, overlay, same}
+use Rattle.field.proofs.Parts.{part-length, part-whole, overlay-whole}
+use Rattle.message.specs.Layout.{values}
+use Rattle.message.specs.Letters.{Letter, letterIn, letterFor, noTexts, textsOf}
+use Rattle.message.specs.Message.{refusalNumber, writeRefusalNumber, readOf, keeps, bytesOf, Outcome, outcome, writeOf}
+use Rattle.message.specs.declared.Message.{Message}
+use Rattle.message.specs.declared.Message.the-variants as message
+use Rattle.message.specs.declared.Texts.{Texts}
+use Rattle.message.specs.declared.Refusal.{Refusal}
+use Rattle.message.specs.declared.Answer.{Answer}
+use Rattle.message.specs.declared.Answer.the-variants as reading
+use Rattle.message.specs.declared.Reading.{Reading}
+use Rattle.message.specs.declared.Written.{Written}
+use Rattle.message.specs.declared.Written.the-variants.{Whole, Unwritten}
+use Rattle.message.specs.declared.WriteRefusal.{WriteRefusal}
+use Rattle.message.specs.declared.WriteRefusal.the-variants.{BrokenRecord, ShortOutput}
+use Rattle.message.proofs.Table.{found}
+use Rattle.record.specs.Places.{recordSize, instrumentPlaces, recordLetters}
+use Rattle.record.specs.Record.{recordBytes, held, noRecord, saidBy, saidOf, confirmed, recordOf, answered, readTo, readAnswer, writtenAs, writeFrom, writeAnswer}
+use Rattle.record.specs.declared.Taken.{Taken}
+use Rattle.record.specs.declared.Taken.the-variants.{Is, NoRecord}
+use Rattle.record.specs.declared.Held.{Held}
+
+-- ---- what the fields say
+
+pub texts-copied : (bs : List ℕ) {a b c : List ℕ} → recordSize ≤ length bs → a ≡ overlay (replicate 8 0) 0 (part bs 75 8) → b ≡ overlay (replicate 13 0) 0 (part bs 83 13)
+    → c ≡ overlay (replicate 16 0) 0 (part bs 96 16) → _≡_ {A = Texts} (record { symbol = a; underlying = b; reserved = c }) (textsOf (values instrumentPlaces bs))
+unfolding values
+texts-copied bs h p q r i =
+    record {
+      symbol = (p ∙ overlay-whole (replicate 8 0) (part bs 75 8) (part-length bs 75 8 (omega arith))) i;
+      underlying = (q ∙ overlay-whole (replicate 13 0) (part bs 83 13) (part-length bs 83 13 (omega arith))) i;
+      reserved = (r ∙ overlay-whole (replicate 16 0) (part bs 96 16) (part-length bs 96 16 (omega arith))) i;
+    }
+
+-- in the arm of letter k
+pub arm : {A : Type 0} (k c : ℕ) (bs : List ℕ) (says : A → Message) (a : A) (t : Texts) {x : A} {r : Held} → c ≡ k → x ≡ a → r ≡ held (says x) t
+    → held (says a) t ≡ saidBy (letterIn recordLetters k) bs → r ≡ saidBy (letterIn recordLetters c) bs
+arm k c bs says a t e is p q = p ∙ ap (λ x. held (says x) t) is ∙ q ∙ ap (λ x. saidBy (letterIn recordLetters x) bs) (sym e)
+
+infixr 5 _also_
+abbrev _also_ : {A B : Type 0} → A → B → A × B
+a also b = (a, b)
+
+-- none of the ten
+pub no-arm : (c : ℕ) (bs : List ℕ) {r : Held} → (c ≡ 83 → ⊥) → (c ≡ 109 → ⊥) → (c ≡ 72 → ⊥) → (c ≡ 113 → ⊥) → (c ≡ 81 → ⊥) → (c ≡ 98 → ⊥) → (c ≡ 97 → ⊥) → (c ≡ 66 → ⊥)
+    → (c ≡ 65 → ⊥) → (c ≡ 77 → ⊥) → r ≡ noRecord → r ≡ saidBy (letterIn recordLetters c) bs
+unfolding recordLetters saidBy
+no-arm c bs {r} n1 n2 n3 n4 n5 n6 n7 n8 n9 n10 p =
+    found (λ (l : Letter). r ≡ saidBy l bs) c recordLetters p
+    ((λ e. absurd (n1 (sym e)))
+    also (λ e. absurd (n2 (sym e)))
+    also (λ e. absurd (n3 (sym e)))
+    also (λ e. absurd (n4 (sym e)))
+    also (λ e. absurd (n5 (sym e)))
+    also (λ e. absurd (n6 (sym e)))
+    also (λ e. absurd (n7 (sym e)))
+    also (λ e. absurd (n8 (sym e)))
+    also (λ e. absurd (n9 (sym e)))
+    also (λ e. absurd (n10 (sym e)))
+    also tt)
+
+-- ---- taken from bytes
+
+pub whole-same : (own bs : List ℕ) (m : Message) (t : Texts) {r : Bool} → own ≡ recordBytes m t → length own ≡ recordSize → length bs ≡ recordSize
+    → r ≡ same (part own 0 112) (part bs 0 112) → r ≡ same (recordBytes m t) bs
+whole-same own bs m t e k h p = p ∙ rw (part-whole own 112 k, part-whole bs 112 h, e)
+
+pub take-long : (bs : List ℕ) {r : Held} → (length bs ≡ recordSize → ⊥) → r ≡ noRecord → r ≡ recordOf bs
+unfolding recordOf
+take-long bs h p = p ∙ rw (ne-eqb (length bs) recordSize h)
+
+module _ (bs : List ℕ) (said : Held) (h : length bs ≡ recordSize) (is : said ≡ saidBy (letterIn recordLetters (getD bs 0 0)) bs) where
+  as-said : confirmed (said .taken) (said .texts) bs ≡ recordOf bs
+  unfolding recordOf saidOf
+  as-said = rw (eq-eqb (length bs) recordSize h, is)
+
+  pub take-none : {r : Held} → said .taken ≡ NoRecord → r ≡ noRecord → r ≡ recordOf bs
+  unfolding confirmed
+  take-none e p = p ∙ ap (λ (x : Taken). confirmed x (said .texts) bs) (sym e) ∙ as-said
+
+  module _ (m : Message) {ok : Bool} (e : said .taken ≡ Is m) (q : ok ≡ same (recordBytes m (said .texts)) bs) where
+    as-is : confirmed (Is m) (said .texts) bs ≡ recordOf bs
+    as-is = ap (λ (x : Taken). confirmed x (said .texts) bs) (sym e) ∙ as-said
+
+    pub take-yes : ok ≡ true → held m (said .texts) ≡ recordOf bs
+    unfolding confirmed
+    take-yes y = rw (← q, y) at as-is
+
+    pub take-no : {r : Held} → ok ≡ false → r ≡ noRecord → r ≡ recordOf bs
+    unfolding confirmed
+    take-no n p = p ∙ (rw (← q, n) at as-is)
+
+-- ---- read to a record
+
+pub read-long : (bs memory : List ℕ) → (length memory ≡ recordSize → ⊥) → answered 20 memory ≡ readAnswer bs memory
+unfolding readAnswer
+read-long bs memory h = rw (ne-eqb (length memory) recordSize h)
+
+module _ (bs memory : List ℕ) (x : Reading) (h : length memory ≡ recordSize) (is : x ≡ readOf bs) where
+  as-read : readTo (x .answer) (x .texts) memory ≡ readAnswer bs memory
+  unfolding readAnswer
+  as-read = rw (eq-eqb (length memory) recordSize h, is)
+
+  pub read-yes : (m : Message) {zs : List ℕ} → x .answer ≡ reading.Is m → zs ≡ recordBytes m (x .texts) → answered 0 zs ≡ readAnswer bs memory
+  unfolding readTo
+  read-yes m e p = ap (answered 0) p ∙ ap (λ (a : Answer). readTo a (x .texts) memory) (sym e) ∙ as-read
+
+  pub read-no : (r : Refusal) {n : ℕ} → x .answer ≡ reading.Refused r → n ≡ refusalNumber r → answered n memory ≡ readAnswer bs memory
+  unfolding readTo
+  read-no r e p = ap (λ (k : ℕ). answered k memory) p ∙ ap (λ (a : Answer). readTo a (x .texts) memory) (sym e) ∙ as-read
+
+-- ---- written from a record
+
+size-most : (m : Message) → letterFor m .size ≤ 63
+size-most (message.SystemEvent m) = omega arith
+size-most (message.Directory m) = omega arith
+size-most (message.TradingAction m) = omega arith
+size-most (message.ShortQuote m) = omega arith
+size-most (message.LongQuote m) = omega arith
+size-most (message.ShortSide m) = omega arith
+size-most (message.LongSide m) = omega arith
+size-most (message.EndOfReplay m) = omega arith
+
+-- a count of bytes written is the letter's length
+pub count-is : (m : Message) (t : Texts) (out : List ℕ) (n : ℕ) → writeOf m t out .answer ≡ Whole n → n ≡ letterFor m .size
+unfolding writeOf
+count-is m t out n = by (keeps m t) (leb (letterFor m .size) (length out))
+  where
+    by : (k l : Bool)
+        → cond k (cond l (outcome (Whole (letterFor m .size)) (overlay out 0 (bytesOf m t))) (outcome (Unwritten ShortOutput) out)) (outcome (Unwritten BrokenRecord) out) .answer
+        ≡ Whole n → n ≡ letterFor m .size
+    by true true e = cc
+    by true false e = cc
+    by false l e = cc
+
+pub count-most : (m : Message) (t : Texts) (out : List ℕ) (n : ℕ) {w : Written} {zs : List ℕ} → outcome w zs ≡ writeOf m t out → w ≡ Whole n → n ≤ 63
+count-most m t out n p e =
+    omega (arith, size-most m, count-is m t out n (sym (ap (λ (o : Outcome). o .answer) p) ∙ e))
+
+pub write-long : (bs out : List ℕ) → (length bs ≡ recordSize → ⊥) → answered 20 out ≡ writeAnswer bs out
+unfolding writeAnswer
+write-long bs out h = rw (ne-eqb (length bs) recordSize h)
+
+module _ (bs out : List ℕ) (x : Held) (h : length bs ≡ recordSize) (is : x ≡ recordOf bs) where
+  as-taken : writeFrom (x .taken) (x .texts) out ≡ writeAnswer bs out
+  unfolding writeAnswer
+  as-taken = rw (eq-eqb (length bs) recordSize h, is)
+
+  pub write-none : x .taken ≡ NoRecord → answered 26 out ≡ writeAnswer bs out
+  unfolding writeFrom
+  write-none e = ap (λ (a : Taken). writeFrom a (x .texts) out) (sym e) ∙ as-taken
+
+  module _ (m : Message) {w : Written} {zs : List ℕ} (e : x .taken ≡ Is m) (p : outcome w zs ≡ writeOf m (x .texts) out) where
+    as-written : writtenAs w zs ≡ writeAnswer bs out
+    unfolding writeFrom
+    as-written = ap (λ (o : Outcome). writtenAs (o .answer) (o .memory)) p ∙ ap (λ (a : Taken). writeFrom a (x .texts) out) (sym e) ∙ as-taken
+
+    pub write-whole : (n : ℕ) → w ≡ Whole n → answered (n * 256) zs ≡ writeAnswer bs out
+    unfolding writtenAs
+    write-whole n q = ap (λ (a : Written). writtenAs a zs) (sym q) ∙ as-written
+
+    pub write-refused : (r : WriteRefusal) {n : ℕ} → w ≡ Unwritten r → n ≡ writeRefusalNumber r → answered n zs ≡ writeAnswer bs out
+    unfolding writtenAs
+    write-refused r q s = ap (λ (k : ℕ). answered k zs) s ∙ ap (λ (a : Written). writtenAs a zs) (sym q) ∙ as-written

@@ -1,0 +1,13 @@
+-- `record::lay::stamp` meets its contract.
+-- Assumes nothing.
+use borrow.Author.Needs.{needs}
+use Rattle.record.proofs.Puts.{stamp-laid}
+use Rattle.record.proofs.lay.stamp.Statement.{statement}
+use Rattle.record.proofs.lay.stamp.Tie as tie
+
+returns : tie.Need-returns
+returns c = search (stamp-laid, needs)
+
+pub stamp-spec : {M : Type 1} → statement M
+stamp-spec =
+    tie.close (tie.spec (λ c κs. search needs) (λ c κs. search needs) (λ c κs. search needs) (λ c. search needs) returns)

@@ -1,0 +1,12 @@
+-- `record::lay::system_event` meets its contract.
+-- Assumes nothing.
+use borrow.Author.Needs.{needs}
+use Rattle.record.proofs.Puts.{system-event-laid}
+use Rattle.record.proofs.lay.system_event.Statement.{statement}
+use Rattle.record.proofs.lay.system_event.Tie as tie
+
+returns : tie.Need-returns
+returns c = search (system-event-laid, needs)
+
+pub system-event-spec : {M : Type 1} → statement M
+system-event-spec = tie.close (tie.spec (λ c κs. search needs) (λ c κs. search needs) (λ c. search needs) returns)

@@ -1,0 +1,11 @@
+-- `record::none` meets its contract.
+-- Assumes nothing.
+use borrow.Author.Needs.{needs}
+use Rattle.record.proofs.none.Statement.{statement}
+use Rattle.record.proofs.none.Tie as tie
+
+returns : tie.Need-returns
+returns c = cc
+
+pub none-spec : {M : Type 1} → statement M
+none-spec = tie.close (tie.spec (λ c κs. search needs) returns)

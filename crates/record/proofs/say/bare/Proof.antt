@@ -1,0 +1,11 @@
+-- `record::say::bare` meets its contract.
+-- Assumes nothing.
+use borrow.Author.Needs.{needs}
+use Rattle.record.proofs.say.bare.Statement.{statement}
+use Rattle.record.proofs.say.bare.Tie as tie
+
+returns : tie.Need-returns
+returns c = cc
+
+pub bare-spec : {M : Type 1} → statement M
+bare-spec = tie.close (tie.spec (λ c κs. search needs) returns)

@@ -1,0 +1,30 @@
+-- `record::write` meets its contract.
+-- Assumes nothing.
+use Prim.Native.Nat.{_≤_}
+use borrow.Author.Needs.{needs}
+use Rattle.record.proofs.Ways.{count-most, write-long, write-none, write-whole, write-refused}
+use Rattle.record.proofs.write.Statement.{statement}
+use Rattle.record.proofs.write.Tie as tie
+
+returns : tie.Need-returns
+returns c = search (write-long, needs)
+
+cast-result : tie.Need-cast-result
+cast-result c = let h : c .before .n .given .0 .0 ≤ 63 = count-most _ _ _ _ (c .before .before .before .before .before .write .ensures) (c .before .n .given .1) in search needs
+
+mul-result : tie.Need-mul-result
+mul-result c = let h : c .before .n .given .0 .0 ≤ 63 = count-most _ _ _ _ (c .before .before .before .before .before .write .ensures) (c .before .n .given .1) in search needs
+
+returns-2 : tie.Need-returns-2
+returns-2 c = search (write-whole, needs)
+
+returns-3 : tie.Need-returns-3
+returns-3 c = search (write-refused, needs)
+
+returns-4 : tie.Need-returns-4
+returns-4 c = search (write-none, needs)
+
+pub write-spec : {M : Type 1} → statement M
+write-spec =
+    tie.close
+    (tie.spec returns (λ c κs. search needs) (λ c. search needs) (λ c κs. search needs) (λ c. search needs) cast-result mul-result (λ c. search needs) (λ c κs. search needs) (λ c. search needs) (λ c. search needs) (λ c. search needs) returns-2 (λ c. search needs) returns-3 returns-4)

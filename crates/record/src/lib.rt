@@ -1,0 +1,117 @@
+// The record of a message in bytes: 112 of them, the same places for all letters, and 0 where a letter has no field.
+use message::Answer;
+use message::Message;
+use message::Texts;
+use message::Written;
+ghost use mathlib.Core.Path.{_≡_};
+ghost use lib.ListN.{length};
+ghost use Rattle.field.specs.Bytes.{same};
+ghost use Rattle.record.specs.Places.{recordSize};
+ghost use Rattle.record.specs.Record.{recordBytes, held, noRecord, recordOf, answered, readAnswer, writeAnswer};
+
+mod lay;
+mod say;
+
+pub const RECORD_SIZE: usize = 112;
+
+pub enum Taken {
+    Is(Message),
+    NoRecord,
+}
+
+// What some bytes hold, with a directory's texts beside it; zeros beside any other.
+pub struct Held {
+    pub taken: Taken,
+    pub texts: Texts,
+}
+
+fn none() -> Held
+    ensures { λ r. ⌜ r ≡ noRecord ⌝ }
+{
+    Held {
+        taken: Taken::NoRecord,
+        texts: message::no_texts(),
+    }
+}
+
+// The record of a message, all of it.
+pub fn put(m: Message, t: Texts, out: &mut [u8])
+    requires { ⌜ length (now out) ≡ recordSize ⌝ }
+    ensures { λ _. ⌜ now (out .exit) ≡ recordBytes m t ⌝ }
+{
+    field::fill(out, 0, RECORD_SIZE, 0);
+    lay::message(m, t, out);
+}
+
+// Are the bytes the record of this message?
+fn is_record(m: Message, t: Texts, bytes: &[u8]) -> bool
+    requires { ⌜ length (now bytes) ≡ recordSize ⌝ }
+    ensures { λ r. ⌜ r ≡ same (recordBytes m t) (now (bytes .entry)) ⌝ }
+{
+    let mut own = [0; 112];
+    put(m, t, &mut own);
+    field::equal(&own, 0, bytes, 0, RECORD_SIZE)
+}
+
+// The message of a record: none for bytes that are no record.
+pub fn take(bytes: &[u8]) -> Held
+    ensures { λ r. ⌜ r ≡ recordOf (now (bytes .entry)) ⌝ }
+{
+    if bytes.len() != RECORD_SIZE {
+        return none();
+    }
+    let letter = bytes[0];
+    let said = say::message(letter, bytes);
+    let t = said.texts;
+    let taken = said.taken;
+    match taken {
+        Taken::Is(m) => {
+            if is_record(m, t, bytes) {
+                return Held {
+                    taken: Taken::Is(m),
+                    texts: t,
+                };
+            }
+            none()
+        }
+        Taken::NoRecord => none(),
+    }
+}
+
+// A message's bytes read to its record: 0, or the number of a refusal, which leaves the record memory.
+pub fn read(bytes: &[u8], memory: &mut [u8]) -> u32
+    ensures { λ r. ⌜ answered r (now (memory .exit)) ≡ readAnswer (now (bytes .entry)) (now (memory .entry)) ⌝ }
+{
+    if memory.len() != RECORD_SIZE {
+        return 20;
+    }
+    let reading = message::read(bytes);
+    let t = reading.texts;
+    let answer = reading.answer;
+    match answer {
+        Answer::Is(m) => {
+            put(m, t, memory);
+            0
+        }
+        Answer::Refused(r) => message::refusal_number(r) as u32,
+    }
+}
+
+// A record written as its message's bytes: 256 times their count, or the number of a refusal, which leaves the output.
+pub fn write(memory: &[u8], out: &mut [u8]) -> u32
+    ensures { λ r. ⌜ answered r (now (out .exit)) ≡ writeAnswer (now (memory .entry)) (now (out .entry)) ⌝ }
+{
+    if memory.len() != RECORD_SIZE {
+        return 20;
+    }
+    let held = take(memory);
+    let t = held.texts;
+    let taken = held.taken;
+    match taken {
+        Taken::Is(m) => match message::write(m, t, out) {
+            Written::Whole(n) => n as u32 * 256,
+            Written::Unwritten(r) => message::write_refusal_number(r) as u32,
+        },
+        Taken::NoRecord => 26,
+    }
+}
