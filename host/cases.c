@@ -149,6 +149,26 @@ void make_session_case(struct dice *d, bool damaged, struct script *s, struct ta
 
 /* Handles. */
 
+/* Changes to one byte. They draw after the place has been drawn, so that the
+ * order of drawing is the same under every compiler. */
+
+static void change_byte(struct dice *d, uint8_t *p)
+{
+    *p ^= (uint8_t)dice_between(d, 1, 255);
+}
+
+static void flip_bit(struct dice *d, uint8_t *p)
+{
+    *p ^= (uint8_t)(1 << dice_below(d, 8));
+}
+
+/* A number of any magnitude. */
+static void set_number(struct dice *d, uint8_t *p)
+{
+    uint64_t v = dice_next(d);
+    nelqubat_set(p, 8, v >> dice_below(d, 64));
+}
+
 /* Changes a handle's bytes: fields, flags, held bytes, or all of them. */
 static void damage_handle(struct dice *d, struct plain_reader *r, uint8_t *handle)
 {
@@ -159,13 +179,13 @@ static void damage_handle(struct dice *d, struct plain_reader *r, uint8_t *handl
             memset(handle + NELQUBAT_HANDLE_KNOWN, (int)dice_below(d, 2), 3);
         break;
     case 1:
-        handle[dice_between(d, NELQUBAT_HANDLE_KNOWN, NELQUBAT_HANDLE_ENDED)] ^= (uint8_t)dice_between(d, 1, 255);
+        change_byte(d, &handle[dice_between(d, NELQUBAT_HANDLE_KNOWN, NELQUBAT_HANDLE_ENDED)]);
         break;
     case 2:
-        handle[dice_below(d, NELQUBAT_HANDLE_PACKET + 4)] ^= (uint8_t)dice_between(d, 1, 255);
+        change_byte(d, &handle[dice_below(d, NELQUBAT_HANDLE_PACKET + 4)]);
         break;
     case 3:
-        nelqubat_set(handle + 8 * dice_below(d, 4), 8, dice_next(d) >> dice_below(d, 64));
+        set_number(d, handle + 8 * dice_below(d, 4));
         break;
     case 4:
         spoil_reader(d, r);
@@ -279,22 +299,26 @@ void make_image_case(struct dice *d, bool damaged, struct script *s, struct tall
 
 /* Records. */
 
+static const char letters[] = "SmHqQbaBAM";
+
 static void break_record(struct dice *d, struct plain_message *m, uint8_t *record)
 {
+    size_t number = dice_below(d, 10), letter = dice_below(d, 10);
     switch (dice_below(d, 5)) {
     case 0: /* a place that the letter lacks, or any other */
-        record[dice_below(d, NELQUBAT_RECORD_BYTES)] ^= (uint8_t)(1 << dice_below(d, 8));
+        flip_bit(d, &record[dice_below(d, NELQUBAT_RECORD_BYTES)]);
         break;
     case 1:
-        record[NELQUBAT_RECORD_LETTER] =
-            (uint8_t)(dice_chance(d, 50) ? "SmHqQbaBAM"[dice_below(d, 10)] : dice_below(d, 256));
+        record[NELQUBAT_RECORD_LETTER] = (uint8_t)letters[letter];
+        if (dice_chance(d, 50))
+            dice_fill(d, record, 1);
         break;
     case 2: /* the upper half of a side's number */
-        record[NELQUBAT_RECORD_BID + 4 * dice_below(d, 10) + dice_below(d, 2)] = 1;
+        record[NELQUBAT_RECORD_BID + 4 * number + dice_below(d, 2)] = 1;
         break;
     case 3:
         dice_fill(d, record, NELQUBAT_RECORD_BYTES);
-        record[NELQUBAT_RECORD_LETTER] = (uint8_t)"SmHqQbaBAM"[dice_below(d, 10)];
+        record[NELQUBAT_RECORD_LETTER] = (uint8_t)letters[letter];
         break;
     default:
         break_message(d, m);
