@@ -28,13 +28,19 @@ struct functions {
                      uint8_t *, size_t);
 };
 
-static const struct functions library_functions = {
-    nelqubat_start, nelqubat_step, nelqubat_save, nelqubat_restore,
-    nelqubat_read, nelqubat_write, nelqubat_line};
-
 static const struct functions plain_functions = {
     oracle_start, oracle_step, oracle_save, oracle_restore,
     oracle_read, oracle_write, oracle_line};
+
+/* Inputs for the fuzzing target can also be looked for on a machine that the
+ * library is not built for: the plain reader then stands on both sides. */
+#ifdef PAIR_WITHOUT_LIBRARY
+#define library_functions plain_functions
+#else
+static const struct functions library_functions = {
+    nelqubat_start, nelqubat_step, nelqubat_save, nelqubat_restore,
+    nelqubat_read, nelqubat_write, nelqubat_line};
+#endif
 
 static const char *const names[OPERATIONS] = {
     "start", "step", "feed", "save", "restore", "resume", "read", "write", "line"};
@@ -301,6 +307,7 @@ bool pair_call(struct pair *p, const struct call *c, const uint8_t *input)
     return call_once(p, c, input);
 }
 
+#ifndef PAIR_WITHOUT_LIBRARY
 bool pair_sizes(struct pair *p)
 {
     if (nelqubat_handle_size() == NELQUBAT_HANDLE_BYTES &&
@@ -313,3 +320,4 @@ bool pair_sizes(struct pair *p)
              NELQUBAT_HANDLE_BYTES, NELQUBAT_TABLE_BYTES, NELQUBAT_RECORD_BYTES);
     return false;
 }
+#endif
