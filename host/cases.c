@@ -1,5 +1,6 @@
 #include "cases.h"
 
+#include "edges.h"
 #include "oracle.h"
 
 #include <string.h>
@@ -129,10 +130,12 @@ void make_session_case(struct dice *d, bool damaged, struct script *s, struct ta
     }
     make_session(d, &plan, &session);
     session.room = sizeof space;
-    if (damaged)
-        damage_session(d, (enum session_damage)dice_below(d, SESSION_DAMAGES), &session);
-    if (damaged && dice_chance(d, 20))
-        damage_session(d, (enum session_damage)dice_below(d, SESSION_DAMAGES), &session);
+    for (bool again = damaged; again; again = dice_chance(d, 20)) {
+        if (dice_chance(d, 15))
+            edge_session(d, &session);
+        else
+            damage_session(d, (enum session_damage)dice_below(d, SESSION_DAMAGES), &session);
+    }
     begin_session(d, &plan, s);
     resumed = dice_chance(d, 15) ? middle(d, &session) : session.n;
     add_pieces(d, session.at, resumed, s);
@@ -172,7 +175,7 @@ static void set_number(struct dice *d, uint8_t *p)
 /* Changes a handle's bytes: fields, flags, held bytes, or all of them. */
 static void damage_handle(struct dice *d, struct plain_reader *r, uint8_t *handle)
 {
-    switch (dice_below(d, 6)) {
+    switch (dice_below(d, 8)) {
     case 0:
         dice_fill(d, handle, NELQUBAT_HANDLE_BYTES);
         if (dice_chance(d, 50))
@@ -191,9 +194,12 @@ static void damage_handle(struct dice *d, struct plain_reader *r, uint8_t *handl
         spoil_reader(d, r);
         oracle_pack_handle(r, handle);
         break;
-    default:
+    case 5:
         break_reader(d, r);
         oracle_pack_handle(r, handle);
+        break;
+    default:
+        edge_handle(d, handle);
         break;
     }
 }
@@ -247,6 +253,8 @@ void make_handle_case(struct dice *d, bool damaged, struct script *s, struct tal
         dice_fill(d, r.held + r.used, sizeof r.held - r.used);
     if (dice_chance(d, 20))
         blur_table(d, &r, s->table);
+    else if (r.rows > 0 && dice_chance(d, 30))
+        edge_row(d, s->table + dice_below(d, r.rows) * NELQUBAT_ROW_BYTES);
     oracle_pack_handle(&r, s->handle);
     if (damaged)
         damage_handle(d, &r, s->handle);
@@ -268,6 +276,8 @@ static void make_any_image(struct dice *d, bool damaged, struct bytes *image)
         image->n = NELQUBAT_BLOCK_BYTES * dice_between(d, 1, 4);
         dice_fill(d, image->at, image->n);
         seal_image(image);
+    } else if (dice_chance(d, 30)) {
+        edge_image(d, image);
     } else {
         damage_image(d, (enum image_damage)dice_below(d, IMAGE_DAMAGES), image);
     }
@@ -304,7 +314,7 @@ static const char letters[] = "SmHqQbaBAM";
 static void break_record(struct dice *d, struct plain_message *m, uint8_t *record)
 {
     size_t number = dice_below(d, 10), letter = dice_below(d, 10);
-    switch (dice_below(d, 5)) {
+    switch (dice_below(d, 7)) {
     case 0: /* a place that the letter lacks, or any other */
         flip_bit(d, &record[dice_below(d, NELQUBAT_RECORD_BYTES)]);
         break;
@@ -320,9 +330,12 @@ static void break_record(struct dice *d, struct plain_message *m, uint8_t *recor
         dice_fill(d, record, NELQUBAT_RECORD_BYTES);
         record[NELQUBAT_RECORD_LETTER] = (uint8_t)letters[letter];
         break;
-    default:
+    case 4:
         break_message(d, m);
         oracle_pack_record(m, record);
+        break;
+    default:
+        edge_record(d, record);
         break;
     }
 }
@@ -348,11 +361,13 @@ static void add_read(struct dice *d, bool damaged, struct script *s)
     struct plain_message m;
     struct call c = usual_call(CALL_READ);
     size_t n;
-    if (damaged) {
+    if (damaged && dice_chance(d, 70)) {
         n = make_message_bytes(d, bytes, sizeof bytes);
     } else {
         make_any_message(d, &m);
         plain_write(&m, bytes, sizeof bytes, &n);
+        if (damaged)
+            edge_message(d, bytes, n);
     }
     if (dice_chance(d, 10))
         c.memory_n = (uint32_t)make_length(d, NELQUBAT_RECORD_BYTES);
