@@ -4,6 +4,8 @@
  *   compare [SEED [ROUNDS]]    a round's seed is SEED plus its place
  *   compare --replay FILE      runs a case that was written on a difference
  */
+#define _POSIX_C_SOURCE 200809L
+
 #include "cases.h"
 
 #include <errno.h>
@@ -11,15 +13,17 @@
 #include <stdio.h>
 #include <stdlib.h>
 #include <string.h>
+#include <unistd.h>
 
-enum { DEFAULT_SEED = 1, DEFAULT_ROUNDS = 3000 };
+/* A round takes some hundredths of a second, even emulated. */
+enum { DEFAULT_SEED = 1, DEFAULT_ROUNDS = 3000, ROUND_SECONDS = 120 };
 
 static struct pair pair;
 static struct script script, spare;
 static struct tally tally;
 static uint64_t round_seed;
 
-/* The library broke off in the middle of a call. */
+/* The library broke off in the middle of a call, or never came back. */
 static void broke_off(int number)
 {
     fprintf(stderr, "compare: seed %llu: %s: broke off by signal %d; compare %llu 1 does it again\n",
@@ -32,6 +36,7 @@ static void broke_off(int number)
 static void report(void)
 {
     char path[64], remark[320];
+    alarm(0);
     script_shrink(&script, &spare, &pair);
     snprintf(path, sizeof path, "compare-%llu.case", (unsigned long long)round_seed);
     snprintf(remark, sizeof remark, "seed %llu: %s", (unsigned long long)round_seed,
@@ -58,11 +63,12 @@ static bool run_cases(struct dice *d, case_maker *make, bool damaged, unsigned t
     return true;
 }
 
-/* One round: 38 damaged inputs and more, and some four hundred packets. */
+/* One round: 35 damaged inputs and some four hundred packets. */
 static bool run_round(uint64_t seed)
 {
     struct dice d = dice_seeded(seed);
     round_seed = seed;
+    alarm(ROUND_SECONDS);
     return run_cases(&d, make_session_case, false, 2) &&
            run_cases(&d, make_session_case, true, 6) &&
            run_cases(&d, make_handle_case, false, 4) &&
@@ -119,6 +125,7 @@ int main(int argc, char **argv)
     signal(SIGBUS, broke_off);
     signal(SIGILL, broke_off);
     signal(SIGFPE, broke_off);
+    signal(SIGALRM, broke_off);
     if (argc == 3 && strcmp(argv[1], "--replay") == 0)
         return replay(argv[2]);
     if (argc > 3 || (argc > 1 && !number(argv[1], &seed)) ||

@@ -1,6 +1,9 @@
-/* Makes inputs for the fuzzing target from sessions: corpus FOLDER SESSION... */
-#include "oracle.h"
+/* Makes inputs for the fuzzing target, from sessions that are named and from
+ * small ones of its own: corpus FOLDER SESSION... */
+#include "edges.h"
+#include "generate.h"
 #include "nelqubat.h"
+#include "oracle.h"
 
 #include <stdio.h>
 #include <string.h>
@@ -66,9 +69,9 @@ static bool add_tables(const struct plain_reader *r, const uint8_t *table, size_
     static uint8_t image[PLAIN_IMAGE_BYTES];
     uint8_t handle[NELQUBAT_HANDLE_BYTES];
     size_t n, left = session_n - at < 600 ? session_n - at : 600;
-    size_t rows = r->rows < 31 ? r->rows : 31;
+    size_t rows = r->rows < 63 ? r->rows : 63;
     oracle_pack_handle(r, handle);
-    begin(2, (uint8_t)(rows << 3));
+    begin(2, (uint8_t)(rows << 2));
     add(handle, sizeof handle);
     add(table, rows * PLAIN_ROW_BYTES);
     add(session + at, left);
@@ -82,6 +85,20 @@ static bool add_tables(const struct plain_reader *r, const uint8_t *table, size_
     return finish();
 }
 
+/* The same record with a field at its limit. */
+static bool add_edges(const uint8_t *record)
+{
+    struct dice d = dice_seeded(files);
+    for (unsigned i = 0; i < 4; i++) {
+        begin(3, 80);
+        add(record, NELQUBAT_RECORD_BYTES);
+        edge_record(&d, input + 2);
+        if (!finish())
+            return false;
+    }
+    return true;
+}
+
 static bool add_message(const struct plain_message *m)
 {
     uint8_t record[NELQUBAT_RECORD_BYTES], bytes[PLAIN_MESSAGE_BYTES];
@@ -93,19 +110,18 @@ static bool add_message(const struct plain_message *m)
         return false;
     begin(3, 112);
     add(bytes, n);
-    return finish();
+    return finish() && add_edges(record);
 }
 
 /* Steps through the session: a message of each kind, and the table now and
  * then. */
-static bool add_steps(void)
+static bool add_steps(struct plain_reader r)
 {
     static uint8_t table[PLAIN_TABLE_BYTES];
-    struct plain_reader r;
     struct plain_answer a;
     unsigned seen = 0;
     size_t at = 0;
-    plain_start(&r, table, sizeof table);
+    memset(table, 0, sizeof table);
     for (unsigned i = 0; at < session_n; i++) {
         plain_step(&r, table, sizeof table, session + at, session_n - at, &a);
         at += a.taken;
@@ -117,6 +133,25 @@ static bool add_steps(void)
             continue;
         seen |= 1u << a.message.kind;
         if (!add_message(&a.message))
+            return false;
+    }
+    return true;
+}
+
+/* Small sessions with every kind of message; some begin near the last number,
+ * which a reader meets only with a handle or an image of that kind. */
+static bool add_made(void)
+{
+    for (uint64_t seed = 0; seed < 12; seed++) {
+        struct dice d = dice_seeded(seed);
+        struct session_plan plan = random_plan(&d);
+        struct bytes s = {session, 0, sizeof session};
+        plan.instruments = 1 + (unsigned)seed % 4;
+        plan.packets = 24;
+        plan.first = seed % 3 == 2 ? PLAIN_MAX_NUMBER - 16 : 1;
+        make_session(&d, &plan, &s);
+        session_n = s.n;
+        if (!add_sessions() || !add_steps(reader_for_plan(&plan)))
             return false;
     }
     return true;
@@ -140,13 +175,14 @@ static bool read_session(const char *path)
 
 int main(int argc, char **argv)
 {
+    struct session_plan fresh = usual_plan();
     if (argc < 3) {
         fprintf(stderr, "usage: corpus FOLDER SESSION...\n");
         return 2;
     }
     folder = argv[1];
     for (int i = 2; i < argc; i++)
-        if (!read_session(argv[i]) || !add_sessions() || !add_steps())
+        if (!read_session(argv[i]) || !add_sessions() || !add_steps(reader_for_plan(&fresh)))
             return 1;
-    return 0;
+    return add_made() ? 0 : 1;
 }

@@ -105,7 +105,7 @@ static void do_image(struct rest input, unsigned how)
 static void do_handle(struct rest input, unsigned how)
 {
     struct rest handle = take(&input, NELQUBAT_HANDLE_BYTES);
-    struct rest rows = take(&input, NELQUBAT_ROW_BYTES * (size_t)(how >> 3));
+    struct rest rows = take(&input, NELQUBAT_ROW_BYTES * (size_t)(how >> 2));
     struct rest none = {input.at, 0};
     static uint8_t first_handle[HANDLE_ROOM], first_table[TABLE_ROOM];
     memset(first_handle, 0, sizeof first_handle);
