@@ -1,0 +1,338 @@
+/* Times the library against the plain reader on the same bytes, in turns.
+ *
+ *   bench                              all cases, the medians of eleven turns
+ *   bench cases                        the cases' names and units in one small turn
+ *   bench once CASE lib|plain|none TURNS
+ *                                      small turns of one side, for a counter of
+ *                                      instructions; none only prepares; no output
+ */
+#define _POSIX_C_SOURCE 200809L
+
+#include "generate.h"
+#include "nelqubat.h"
+#include "oracle.h"
+
+#include <stdio.h>
+#include <stdlib.h>
+#include <string.h>
+#include <time.h>
+
+enum { TURNS = 11, MESSAGES = 1000 };
+
+/* What a case works on; made once, before the turns. */
+static struct {
+    struct bytes session;
+    size_t piece; /* bytes in a piece */
+    size_t units; /* messages or tables in one turn */
+    uint8_t image[NELQUBAT_IMAGE_BYTES];
+    size_t image_n;
+    struct plain_message message[MESSAGES];
+    uint8_t bytes[MESSAGES][NELQUBAT_MESSAGE_BYTES], record[MESSAGES][NELQUBAT_RECORD_BYTES];
+    size_t bytes_n[MESSAGES];
+} work;
+
+/* Each side's own reader. */
+static uint8_t handle[NELQUBAT_HANDLE_BYTES], table[NELQUBAT_TABLE_BYTES];
+static struct plain_reader reader;
+static uint8_t plain_table[PLAIN_TABLE_BYTES];
+
+/* Making the work. `scale` is how much of it there is. */
+
+static void make_work_session(struct session_plan plan, size_t scale, size_t piece)
+{
+    struct dice d = dice_seeded(7);
+    plan.packets = (unsigned)scale;
+    plan.replay_end = plan.end = false;
+    work.session.room = session_room(&plan);
+    work.session.at = malloc(work.session.room);
+    if (work.session.at == NULL) {
+        fprintf(stderr, "bench: no memory\n");
+        exit(2);
+    }
+    make_session(&d, &plan, &work.session);
+    work.piece = piece == 0 ? work.session.n : piece;
+}
+
+/* Mostly b, a and q, some B, A and Q, some H. */
+static struct session_plan quotes(unsigned instruments)
+{
+    struct session_plan plan = usual_plan();
+    plan.instruments = instruments;
+    plan.quotes = 970;
+    plan.states = 30;
+    plan.directories = plan.newcomers = plan.events = plan.heartbeats = plan.skipped = 0;
+    return plan;
+}
+
+static void make_quotes(size_t scale)
+{
+    make_work_session(quotes(256), scale, 0);
+}
+
+static void make_quotes_cut(size_t scale)
+{
+    make_work_session(quotes(256), scale, 1460);
+}
+
+/* No state after the opening, so that every packet is a quote. */
+static void make_quotes_one(size_t scale)
+{
+    struct session_plan plan = quotes(1);
+    plan.states = 0;
+    make_work_session(plan, scale, 0);
+}
+
+static void make_directories(size_t scale)
+{
+    struct session_plan plan = quotes(256);
+    plan.directories = 1;
+    plan.quotes = plan.states = 0;
+    make_work_session(plan, scale, 0);
+}
+
+static void read_plain_session(void);
+
+/* A table of 256 rows with quotes, in both readers' memory and as an image. */
+static void make_table(size_t scale)
+{
+    make_work_session(quotes(256), 2000, 0);
+    read_plain_session();
+    plain_save(&reader, plain_table, sizeof plain_table, work.image, sizeof work.image,
+               &work.image_n);
+    nelqubat_restore(handle, sizeof handle, table, sizeof table, work.image, work.image_n);
+    work.units = scale / 50;
+}
+
+static void make_messages(size_t scale)
+{
+    struct dice d = dice_seeded(7);
+    for (size_t i = 0; i < MESSAGES; i++) {
+        make_any_message(&d, &work.message[i]);
+        plain_write(&work.message[i], work.bytes[i], sizeof work.bytes[i], &work.bytes_n[i]);
+        oracle_pack_record(&work.message[i], work.record[i]);
+    }
+    work.units = scale;
+}
+
+/* The turns. */
+
+static bool goes_on(unsigned kind)
+{
+    return kind != NELQUBAT_MORE && kind != NELQUBAT_ENDED && kind != NELQUBAT_REFUSED;
+}
+
+static void read_library_session(void)
+{
+    uint8_t event[NELQUBAT_RECORD_BYTES];
+    nelqubat_start(handle, sizeof handle, table, sizeof table);
+    for (size_t at = 0; at < work.session.n;) {
+        size_t end = at + work.piece < work.session.n ? at + work.piece : work.session.n;
+        uint32_t a;
+        do {
+            a = nelqubat_step(handle, sizeof handle, table, sizeof table,
+                              work.session.at + at, end - at, event, sizeof event);
+            at += nelqubat_taken(a);
+        } while (goes_on(nelqubat_kind(a)));
+        if (nelqubat_kind(a) != NELQUBAT_MORE)
+            break;
+    }
+    work.units = (size_t)nelqubat_handle_next(handle) - 1;
+}
+
+static void read_plain_session(void)
+{
+    struct plain_answer a;
+    plain_start(&reader, plain_table, sizeof plain_table);
+    for (size_t at = 0; at < work.session.n;) {
+        size_t end = at + work.piece < work.session.n ? at + work.piece : work.session.n;
+        do {
+            plain_step(&reader, plain_table, sizeof plain_table, work.session.at + at,
+                       end - at, &a);
+            at += a.taken;
+        } while (a.kind == PLAIN_EVENT);
+        if (a.kind != PLAIN_MORE)
+            break;
+    }
+    work.units = (size_t)reader.next - 1;
+}
+
+static void save_library(void)
+{
+    static uint8_t out[NELQUBAT_IMAGE_BYTES];
+    for (size_t i = 0; i < work.units; i++)
+        nelqubat_save(handle, sizeof handle, table, sizeof table, out, sizeof out);
+}
+
+static void save_plain(void)
+{
+    static uint8_t out[PLAIN_IMAGE_BYTES];
+    size_t n;
+    for (size_t i = 0; i < work.units; i++)
+        plain_save(&reader, plain_table, sizeof plain_table, out, sizeof out, &n);
+}
+
+static void restore_library(void)
+{
+    for (size_t i = 0; i < work.units; i++)
+        nelqubat_restore(handle, sizeof handle, table, sizeof table, work.image, work.image_n);
+}
+
+static void restore_plain(void)
+{
+    for (size_t i = 0; i < work.units; i++)
+        plain_restore(&reader, plain_table, sizeof plain_table, work.image, work.image_n);
+}
+
+static void read_library(void)
+{
+    uint8_t record[NELQUBAT_RECORD_BYTES];
+    for (size_t i = 0; i < work.units; i++)
+        nelqubat_read(work.bytes[i % MESSAGES], work.bytes_n[i % MESSAGES], record, sizeof record);
+}
+
+static void read_plain(void)
+{
+    struct plain_message m;
+    for (size_t i = 0; i < work.units; i++)
+        plain_read(work.bytes[i % MESSAGES], work.bytes_n[i % MESSAGES], &m);
+}
+
+static void write_library(void)
+{
+    uint8_t out[NELQUBAT_MESSAGE_BYTES];
+    for (size_t i = 0; i < work.units; i++)
+        nelqubat_write(work.record[i % MESSAGES], NELQUBAT_RECORD_BYTES, out, sizeof out);
+}
+
+static void write_plain(void)
+{
+    uint8_t out[PLAIN_MESSAGE_BYTES];
+    size_t n;
+    for (size_t i = 0; i < work.units; i++)
+        plain_write(&work.message[i % MESSAGES], out, sizeof out, &n);
+}
+
+static const struct task {
+    const char *name, *what, *unit;
+    void (*make)(size_t scale);
+    void (*library)(void);
+    void (*plain)(void);
+} tasks[] = {
+    {"quotes", "quotes, 256 instruments, whole piece", "messages", make_quotes,
+     read_library_session, read_plain_session},
+    {"cut", "quotes, 256 instruments, pieces of 1,460 bytes", "messages", make_quotes_cut,
+     read_library_session, read_plain_session},
+    {"one", "quotes, one instrument, whole piece", "messages", make_quotes_one,
+     read_library_session, read_plain_session},
+    {"directories", "directories, 256 instruments, whole piece", "messages", make_directories,
+     read_library_session, read_plain_session},
+    {"save", "saving 256 rows", "tables", make_table, save_library, save_plain},
+    {"restore", "restoring 256 rows", "tables", make_table, restore_library, restore_plain},
+    {"read", "reading messages of every letter", "messages", make_messages, read_library, read_plain},
+    {"write", "writing messages of every letter", "messages", make_messages, write_library, write_plain},
+};
+
+enum { TASKS = sizeof tasks / sizeof *tasks, SCALE = 30000, SMALL_SCALE = 1000 };
+
+static void make_work(const struct task *t, size_t scale)
+{
+    free(work.session.at);
+    memset(&work.session, 0, sizeof work.session);
+    t->make(scale);
+}
+
+/* The processor's time, so that other work on the machine counts little. */
+static double seconds(void (*run)(void))
+{
+    struct timespec from, to;
+    clock_gettime(CLOCK_PROCESS_CPUTIME_ID, &from);
+    run();
+    clock_gettime(CLOCK_PROCESS_CPUTIME_ID, &to);
+    return (double)(to.tv_sec - from.tv_sec) + 1e-9 * (double)(to.tv_nsec - from.tv_nsec);
+}
+
+static int by_size(const void *a, const void *b)
+{
+    double x = *(const double *)a, y = *(const double *)b;
+    return (x > y) - (x < y);
+}
+
+/* Both sides in turn; which one is first changes. One turn before the first
+ * is not counted; after it both must have come equally far. */
+static bool time_task(const struct task *t)
+{
+    double library[TURNS], plain[TURNS];
+    make_work(t, SCALE);
+    t->library();
+    t->plain();
+    if (nelqubat_handle_next(handle) != reader.next) {
+        fprintf(stderr, "bench: %s: the two readers do not agree\n", t->what);
+        return false;
+    }
+    for (int i = 0; i < TURNS; i++) {
+        if (i % 2 == 0)
+            library[i] = seconds(t->library);
+        plain[i] = seconds(t->plain);
+        if (i % 2 != 0)
+            library[i] = seconds(t->library);
+    }
+    qsort(library, TURNS, sizeof *library, by_size);
+    qsort(plain, TURNS, sizeof *plain, by_size);
+    printf("bench: %s: ratio of times %.2f (library %.0f %s a second, plain.c %.0f)\n",
+           t->what, library[TURNS / 2] / plain[TURNS / 2],
+           (double)work.units / library[TURNS / 2], t->unit,
+           (double)work.units / plain[TURNS / 2]);
+    return fflush(stdout) == 0;
+}
+
+static const struct task *find_task(const char *name)
+{
+    for (size_t i = 0; i < TASKS; i++)
+        if (strcmp(tasks[i].name, name) == 0)
+            return &tasks[i];
+    return NULL;
+}
+
+static int once(const char *name, const char *side, const char *times)
+{
+    const struct task *t = find_task(name);
+    char *end;
+    unsigned long turns = strtoul(times, &end, 10);
+    bool library = strcmp(side, "lib") == 0, plain = strcmp(side, "plain") == 0;
+    if (t == NULL || *end != 0 || !(library || plain || strcmp(side, "none") == 0))
+        return 2;
+    make_work(t, SMALL_SCALE);
+    for (unsigned long i = 0; i < turns; i++) {
+        if (library)
+            t->library();
+        if (plain)
+            t->plain();
+    }
+    return 0;
+}
+
+static void list_tasks(void)
+{
+    for (size_t i = 0; i < TASKS; i++) {
+        make_work(&tasks[i], SMALL_SCALE);
+        tasks[i].plain();
+        printf("%s %zu\n", tasks[i].name, work.units);
+    }
+}
+
+int main(int argc, char **argv)
+{
+    int status = 0;
+    if (argc == 1)
+        for (size_t i = 0; i < TASKS && status == 0; i++)
+            status = time_task(&tasks[i]) ? 0 : 1;
+    else if (argc == 2 && strcmp(argv[1], "cases") == 0)
+        list_tasks();
+    else if (argc == 5 && strcmp(argv[1], "once") == 0)
+        status = once(argv[2], argv[3], argv[4]);
+    else
+        status = 2;
+    if (status == 2)
+        fprintf(stderr, "usage: bench | bench cases | bench once CASE lib|plain|none TURNS\n");
+    return status;
+}

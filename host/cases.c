@@ -1,0 +1,388 @@
+#include "cases.h"
+
+#include "edges.h"
+#include "oracle.h"
+
+#include <string.h>
+
+/* The library lets a host name any k; most are near the lines there are. */
+static void add_line(struct dice *d, uint64_t k, struct script *s)
+{
+    struct call c = usual_call(CALL_LINE);
+    c.k = k;
+    if (dice_chance(d, 30))
+        c.memory_n = (uint32_t)dice_below(d, 48);
+    script_add(s, c, NULL, 0);
+}
+
+static void add_lines(struct dice *d, struct script *s)
+{
+    static const uint64_t far[] = {256, 257, 258, 1000, UINT64_C(1) << 32, UINT64_MAX};
+    size_t lines = dice_below(d, dice_chance(d, 5) ? 260 : 6);
+    for (uint64_t k = 0; k < lines; k++)
+        add_line(d, k, s);
+    add_line(d, far[dice_below(d, sizeof far / sizeof *far)], s);
+}
+
+/* Output memory for a save: all, or about what some count of blocks needs. */
+static void add_save(struct dice *d, enum operation op, struct script *s)
+{
+    struct call c = usual_call(op);
+    if (dice_chance(d, 40))
+        c.memory_n = (uint32_t)make_length(d, NELQUBAT_BLOCK_BYTES * dice_between(d, 1, 65));
+    script_add(s, c, NULL, 0);
+}
+
+/* One of the lent lengths made wrong. */
+static void spoil_length(struct dice *d, struct call *c)
+{
+    switch (dice_below(d, 3)) {
+    case 0:
+        c->handle_n = (uint32_t)make_length(d, c->handle_n);
+        break;
+    case 1:
+        c->table_n = (uint32_t)make_length(d, c->table_n);
+        break;
+    default:
+        c->memory_n = (uint32_t)make_length(d, c->memory_n);
+        break;
+    }
+}
+
+/* How a session is cut: whole, single bytes, as the network would, at random,
+ * or in ever changing sizes. */
+enum cut { CUT_WHOLE, CUT_SINGLE, CUT_NETWORK, CUT_RANDOM, CUT_CHANGING };
+
+static enum cut pick_cut(struct dice *d, size_t n)
+{
+    if (dice_chance(d, n < 6000 ? 10 : 1))
+        return CUT_SINGLE;
+    return (enum cut)(dice_chance(d, 20) ? CUT_WHOLE : dice_between(d, CUT_NETWORK, CUT_CHANGING));
+}
+
+static size_t piece_size(struct dice *d, enum cut cut, size_t left)
+{
+    size_t n = left;
+    if (cut == CUT_SINGLE)
+        n = 1;
+    else if (cut == CUT_NETWORK)
+        n = 1460;
+    else if (cut == CUT_RANDOM)
+        n = dice_between(d, 0, 400);
+    else if (cut == CUT_CHANGING)
+        n = make_piece_size(d, left);
+    return n < left ? n : left;
+}
+
+static void add_pieces(struct dice *d, const uint8_t *bytes, size_t n, struct script *s)
+{
+    enum cut cut = pick_cut(d, n);
+    while (n > 0) {
+        size_t size = piece_size(d, cut, n);
+        struct call c = usual_call(CALL_FEED);
+        if (dice_chance(d, 1) && dice_chance(d, 20))
+            spoil_length(d, &c);
+        script_add(s, c, bytes, size);
+        bytes += size;
+        n -= size;
+    }
+}
+
+/* The start of a packet, about in the middle of the session. */
+static size_t middle(struct dice *d, const struct bytes *session)
+{
+    size_t wanted = dice_below(d, session->n + 1), at = 0;
+    while (at + 2 <= session->n && at < wanted)
+        at += 2 + (size_t)session->at[at] * 256 + session->at[at + 1];
+    return at < session->n ? at : session->n;
+}
+
+/* The handle that waits for the plan's login, made by start where it is
+ * fresh, over a table that is not zero. */
+static void begin_session(struct dice *d, const struct session_plan *plan, struct script *s)
+{
+    struct plain_reader r = reader_for_plan(plan);
+    struct call start = usual_call(CALL_START);
+    script_clear(s);
+    dice_fill(d, s->handle, sizeof s->handle);
+    if (plan->first == 1) {
+        memset(s->table, (int)dice_below(d, 256), sizeof s->table);
+        if (dice_chance(d, 5)) {
+            spoil_length(d, &start);
+            script_add(s, start, NULL, 0);
+        }
+        script_add(s, usual_call(CALL_START), NULL, 0);
+    } else {
+        oracle_pack_handle(&r, s->handle);
+    }
+    s->thorough = dice_chance(d, 2);
+}
+
+void make_session_case(struct dice *d, bool damaged, struct script *s, struct tally *t)
+{
+    static uint8_t space[INPUT_ROOM];
+    struct bytes session = {space, 0, sizeof space - DAMAGE_ROOM};
+    struct session_plan plan = random_plan(d);
+    size_t resumed;
+    if (damaged && dice_chance(d, 80)) {
+        plan.packets %= 30;
+        plan.instruments = 1 + plan.instruments % 8;
+    }
+    make_session(d, &plan, &session);
+    session.room = sizeof space;
+    for (bool again = damaged; again; again = dice_chance(d, 20)) {
+        if (dice_chance(d, 15))
+            edge_session(d, &session);
+        else
+            damage_session(d, (enum session_damage)dice_below(d, SESSION_DAMAGES), &session);
+    }
+    begin_session(d, &plan, s);
+    resumed = dice_chance(d, 15) ? middle(d, &session) : session.n;
+    add_pieces(d, session.at, resumed, s);
+    if (resumed < session.n)
+        add_save(d, CALL_RESUME, s);
+    add_pieces(d, session.at + resumed, session.n - resumed, s);
+    if (dice_chance(d, 20))
+        add_save(d, dice_chance(d, 50) ? CALL_SAVE : CALL_RESUME, s);
+    if (dice_chance(d, 20))
+        add_lines(d, s);
+    t->sessions++;
+    t->damaged += damaged;
+}
+
+/* Handles. */
+
+/* Changes to one byte. They draw after the place has been drawn, so that the
+ * order of drawing is the same under every compiler. */
+
+static void change_byte(struct dice *d, uint8_t *p)
+{
+    *p ^= (uint8_t)dice_between(d, 1, 255);
+}
+
+static void flip_bit(struct dice *d, uint8_t *p)
+{
+    *p ^= (uint8_t)(1 << dice_below(d, 8));
+}
+
+/* A number of any magnitude. */
+static void set_number(struct dice *d, uint8_t *p)
+{
+    uint64_t v = dice_next(d);
+    nelqubat_set(p, 8, v >> dice_below(d, 64));
+}
+
+/* Changes a handle's bytes: fields, flags, held bytes, or all of them. */
+static void damage_handle(struct dice *d, struct plain_reader *r, uint8_t *handle)
+{
+    switch (dice_below(d, 8)) {
+    case 0:
+        dice_fill(d, handle, NELQUBAT_HANDLE_BYTES);
+        if (dice_chance(d, 50))
+            memset(handle + NELQUBAT_HANDLE_KNOWN, (int)dice_below(d, 2), 3);
+        break;
+    case 1:
+        change_byte(d, &handle[dice_between(d, NELQUBAT_HANDLE_KNOWN, NELQUBAT_HANDLE_ENDED)]);
+        break;
+    case 2:
+        change_byte(d, &handle[dice_below(d, NELQUBAT_HANDLE_PACKET + 4)]);
+        break;
+    case 3:
+        set_number(d, handle + 8 * dice_below(d, 4));
+        break;
+    case 4:
+        spoil_reader(d, r);
+        oracle_pack_handle(r, handle);
+        break;
+    case 5:
+        break_reader(d, r);
+        oracle_pack_handle(r, handle);
+        break;
+    default:
+        edge_handle(d, handle);
+        break;
+    }
+}
+
+/* A piece for a handle: a packet that fits its table, the rest of the packet
+ * that it holds, or any bytes. */
+static size_t make_piece(struct dice *d, const struct plain_reader *r,
+                         const uint8_t *table, uint8_t *out, size_t room)
+{
+    struct bytes piece = {out, 0, room};
+    if (r->used > 0 && dice_chance(d, 50)) {
+        size_t n = dice_below(d, room);
+        dice_fill(d, out, n);
+        if (r->used < 3 && n > 3)
+            out[2 - r->used] = 'S';
+        return n;
+    }
+    for (size_t i = dice_between(d, 1, 3); i > 0; i--)
+        put_packet_for(d, r, table, &piece);
+    if (dice_chance(d, 10) && piece.n > 0)
+        piece.n = dice_below(d, piece.n + 1);
+    return piece.n;
+}
+
+static void add_handle_call(struct dice *d, const struct plain_reader *r, struct script *s)
+{
+    static const enum operation ops[] = {CALL_STEP, CALL_FEED, CALL_FEED, CALL_SAVE,
+                                         CALL_LINE, CALL_LINE, CALL_RESUME, CALL_START};
+    uint8_t piece[600];
+    struct call c = usual_call(ops[dice_below(d, sizeof ops / sizeof *ops)]);
+    size_t n = 0;
+    if (c.op == CALL_STEP || c.op == CALL_FEED)
+        n = make_piece(d, r, s->table, piece, sizeof piece);
+    if (c.op == CALL_LINE)
+        c.k = dice_chance(d, 80) ? dice_below(d, (uint64_t)r->rows % 300 + 4) : dice_next(d);
+    if (c.op == CALL_SAVE || c.op == CALL_RESUME)
+        c.memory_n = (uint32_t)make_length(d, NELQUBAT_BLOCK_BYTES *
+                                                  (1 + (r->rows % 257 + 3) / 4));
+    if (dice_chance(d, 15))
+        spoil_length(d, &c);
+    script_add(s, c, piece, n);
+}
+
+void make_handle_case(struct dice *d, bool damaged, struct script *s, struct tally *t)
+{
+    struct plain_reader r;
+    script_clear(s);
+    dice_fill(d, s->handle + NELQUBAT_HANDLE_BYTES, SPARE_BYTES);
+    make_reader(d, dice_chance(d, 70), &r, s->table);
+    if (dice_chance(d, 50))
+        dice_fill(d, r.held + r.used, sizeof r.held - r.used);
+    if (dice_chance(d, 20))
+        blur_table(d, &r, s->table);
+    else if (r.rows > 0 && dice_chance(d, 30))
+        edge_row(d, s->table + dice_below(d, r.rows) * NELQUBAT_ROW_BYTES);
+    oracle_pack_handle(&r, s->handle);
+    if (damaged)
+        damage_handle(d, &r, s->handle);
+    for (size_t i = dice_between(d, 1, 6); i > 0; i--)
+        add_handle_call(d, &r, s);
+    s->thorough = dice_chance(d, 20);
+    t->handles++;
+    t->damaged += damaged;
+}
+
+/* Images. */
+
+static void make_any_image(struct dice *d, bool damaged, struct bytes *image)
+{
+    make_image(d, image);
+    if (!damaged)
+        return;
+    if (dice_chance(d, 10)) { /* any bytes with checks that are right */
+        image->n = NELQUBAT_BLOCK_BYTES * dice_between(d, 1, 4);
+        dice_fill(d, image->at, image->n);
+        seal_image(image);
+    } else if (dice_chance(d, 30)) {
+        edge_image(d, image);
+    } else {
+        damage_image(d, (enum image_damage)dice_below(d, IMAGE_DAMAGES), image);
+    }
+}
+
+void make_image_case(struct dice *d, bool damaged, struct script *s, struct tally *t)
+{
+    static uint8_t space[NELQUBAT_IMAGE_BYTES + NELQUBAT_BLOCK_BYTES];
+    struct bytes image = {space, 0, sizeof space};
+    struct call restore = usual_call(CALL_RESTORE);
+    uint8_t piece[64];
+    make_any_image(d, damaged, &image);
+    script_clear(s);
+    dice_fill(d, s->handle, sizeof s->handle);
+    memset(s->table, (int)dice_below(d, 256), sizeof s->table);
+    if (dice_chance(d, 10))
+        spoil_length(d, &restore);
+    script_add(s, restore, image.at, image.n);
+    if (dice_chance(d, 50))
+        add_save(d, dice_chance(d, 50) ? CALL_SAVE : CALL_RESUME, s);
+    if (dice_chance(d, 20))
+        add_lines(d, s);
+    dice_fill(d, piece, sizeof piece);
+    if (dice_chance(d, 20))
+        script_add(s, usual_call(CALL_FEED), piece, sizeof piece);
+    t->images++;
+    t->damaged += damaged;
+}
+
+/* Records. */
+
+static const char letters[] = "SmHqQbaBAM";
+
+static void break_record(struct dice *d, struct plain_message *m, uint8_t *record)
+{
+    size_t number = dice_below(d, 10), letter = dice_below(d, 10);
+    switch (dice_below(d, 7)) {
+    case 0: /* a place that the letter lacks, or any other */
+        flip_bit(d, &record[dice_below(d, NELQUBAT_RECORD_BYTES)]);
+        break;
+    case 1:
+        record[NELQUBAT_RECORD_LETTER] = (uint8_t)letters[letter];
+        if (dice_chance(d, 50))
+            dice_fill(d, record, 1);
+        break;
+    case 2: /* the upper half of a side's number */
+        record[NELQUBAT_RECORD_BID + 4 * number + dice_below(d, 2)] = 1;
+        break;
+    case 3:
+        dice_fill(d, record, NELQUBAT_RECORD_BYTES);
+        record[NELQUBAT_RECORD_LETTER] = (uint8_t)letters[letter];
+        break;
+    case 4:
+        break_message(d, m);
+        oracle_pack_record(m, record);
+        break;
+    default:
+        edge_record(d, record);
+        break;
+    }
+}
+
+static void add_write(struct dice *d, bool damaged, struct script *s)
+{
+    uint8_t record[SMALL_ROOM] = {0};
+    struct plain_message m;
+    struct call c = usual_call(CALL_WRITE);
+    make_any_message(d, &m);
+    oracle_pack_record(&m, record);
+    if (damaged)
+        break_record(d, &m, record);
+    if (dice_chance(d, 30))
+        c.memory_n = (uint32_t)dice_below(d, 80);
+    script_add(s, c, record,
+               dice_chance(d, 10) ? make_length(d, NELQUBAT_RECORD_BYTES) : NELQUBAT_RECORD_BYTES);
+}
+
+static void add_read(struct dice *d, bool damaged, struct script *s)
+{
+    uint8_t bytes[80];
+    struct plain_message m;
+    struct call c = usual_call(CALL_READ);
+    size_t n;
+    if (damaged && dice_chance(d, 70)) {
+        n = make_message_bytes(d, bytes, sizeof bytes);
+    } else {
+        make_any_message(d, &m);
+        plain_write(&m, bytes, sizeof bytes, &n);
+        if (damaged)
+            edge_message(d, bytes, n);
+    }
+    if (dice_chance(d, 10))
+        c.memory_n = (uint32_t)make_length(d, NELQUBAT_RECORD_BYTES);
+    script_add(s, c, bytes, n);
+}
+
+void make_record_case(struct dice *d, bool damaged, struct script *s, struct tally *t)
+{
+    script_clear(s);
+    for (size_t i = 0; i < 16; i++) {
+        if (dice_chance(d, 50))
+            add_write(d, damaged, s);
+        else
+            add_read(d, damaged, s);
+    }
+    t->records += 16;
+    t->damaged += damaged ? 16 : 0;
+}

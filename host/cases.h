@@ -1,0 +1,26 @@
+/* Random cases for the comparison, each from one throw of the dice. */
+#ifndef CASES_H
+#define CASES_H
+
+#include "generate.h"
+#include "script.h"
+
+/* How many inputs of each sort were made. */
+struct tally {
+    unsigned long sessions, handles, images, records, damaged;
+};
+
+/* A session cut into pieces, true or damaged, then its table saved, resumed
+ * and listed. */
+void make_session_case(struct dice *d, bool damaged, struct script *s, struct tally *t);
+
+/* Any handle and table, then calls of every function that takes them. */
+void make_handle_case(struct dice *d, bool damaged, struct script *s, struct tally *t);
+
+/* An image restored, then stepped on from, saved and listed. */
+void make_image_case(struct dice *d, bool damaged, struct script *s, struct tally *t);
+
+/* Sixteen messages or records, read and written. */
+void make_record_case(struct dice *d, bool damaged, struct script *s, struct tally *t);
+
+#endif

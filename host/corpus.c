@@ -1,0 +1,188 @@
+/* Makes inputs for the fuzzing target, from sessions that are named and from
+ * small ones of its own: corpus FOLDER SESSION... */
+#include "edges.h"
+#include "generate.h"
+#include "nelqubat.h"
+#include "oracle.h"
+
+#include <stdio.h>
+#include <string.h>
+
+static uint8_t session[1 << 16];
+static size_t session_n;
+static uint8_t input[1 << 16];
+static size_t input_n;
+static const char *folder;
+static unsigned files;
+
+static void add(const uint8_t *bytes, size_t n)
+{
+    if (n > sizeof input - input_n)
+        n = sizeof input - input_n;
+    memcpy(input + input_n, bytes, n);
+    input_n += n;
+}
+
+static void begin(uint8_t what, uint8_t how)
+{
+    input[0] = what;
+    input[1] = how;
+    input_n = 2;
+}
+
+static bool finish(void)
+{
+    char path[512];
+    FILE *f;
+    bool good;
+    snprintf(path, sizeof path, "%s/%04u", folder, files++);
+    f = fopen(path, "wb");
+    if (f == NULL) {
+        perror(path);
+        return false;
+    }
+    good = fwrite(input, 1, input_n, f) == input_n;
+    good = fclose(f) == 0 && good;
+    if (!good)
+        fprintf(stderr, "corpus: %s cannot be written\n", path);
+    return good;
+}
+
+/* The session's start, short and whole, cut in each way. */
+static bool add_sessions(void)
+{
+    static const size_t lengths[] = {40, 700, sizeof session};
+    for (size_t i = 0; i < sizeof lengths / sizeof *lengths; i++)
+        for (unsigned how = 0; how < 16; how++) {
+            begin(0, (uint8_t)how);
+            add(session, session_n < lengths[i] ? session_n : lengths[i]);
+            if (!finish())
+                return false;
+        }
+    return true;
+}
+
+/* The handle, table and image after some packets, with the packets that
+ * follow behind them. */
+static bool add_tables(const struct plain_reader *r, const uint8_t *table, size_t at)
+{
+    static uint8_t image[PLAIN_IMAGE_BYTES];
+    uint8_t handle[NELQUBAT_HANDLE_BYTES];
+    size_t n, left = session_n - at < 600 ? session_n - at : 600;
+    size_t rows = r->rows < 63 ? r->rows : 63;
+    oracle_pack_handle(r, handle);
+    begin(2, (uint8_t)(rows << 2));
+    add(handle, sizeof handle);
+    add(table, rows * PLAIN_ROW_BYTES);
+    add(session + at, left);
+    if (!finish())
+        return false;
+    if (plain_save(r, table, PLAIN_TABLE_BYTES, image, sizeof image, &n) != 0)
+        return true;
+    begin(1, 32 + 4);
+    add(image, n);
+    add(session + at, left);
+    return finish();
+}
+
+/* The same record with a field at its limit. */
+static bool add_edges(const uint8_t *record)
+{
+    struct dice d = dice_seeded(files);
+    for (unsigned i = 0; i < 4; i++) {
+        begin(3, 80);
+        add(record, NELQUBAT_RECORD_BYTES);
+        edge_record(&d, input + 2);
+        if (!finish())
+            return false;
+    }
+    return true;
+}
+
+static bool add_message(const struct plain_message *m)
+{
+    uint8_t record[NELQUBAT_RECORD_BYTES], bytes[PLAIN_MESSAGE_BYTES];
+    size_t n;
+    oracle_pack_record(m, record);
+    begin(3, 40);
+    add(record, sizeof record);
+    if (!finish() || plain_write(m, bytes, sizeof bytes, &n) != 0)
+        return false;
+    begin(3, 112);
+    add(bytes, n);
+    return finish() && add_edges(record);
+}
+
+/* Steps through the session: a message of each kind, and the table now and
+ * then. */
+static bool add_steps(struct plain_reader r)
+{
+    static uint8_t table[PLAIN_TABLE_BYTES];
+    struct plain_answer a;
+    unsigned seen = 0;
+    size_t at = 0;
+    memset(table, 0, sizeof table);
+    for (unsigned i = 0; at < session_n; i++) {
+        plain_step(&r, table, sizeof table, session + at, session_n - at, &a);
+        at += a.taken;
+        if (a.kind != PLAIN_EVENT)
+            return add_tables(&r, table, at);
+        if ((i & (i - 1)) == 0 && !add_tables(&r, table, at))
+            return false;
+        if (a.event != PLAIN_MESSAGE || (seen >> a.message.kind & 1) != 0)
+            continue;
+        seen |= 1u << a.message.kind;
+        if (!add_message(&a.message))
+            return false;
+    }
+    return true;
+}
+
+/* Small sessions with every kind of message; some begin near the last number,
+ * which a reader meets only with a handle or an image of that kind. */
+static bool add_made(void)
+{
+    for (uint64_t seed = 0; seed < 12; seed++) {
+        struct dice d = dice_seeded(seed);
+        struct session_plan plan = random_plan(&d);
+        struct bytes s = {session, 0, sizeof session};
+        plan.instruments = 1 + (unsigned)seed % 4;
+        plan.packets = 24;
+        plan.first = seed % 3 == 2 ? PLAIN_MAX_NUMBER - 16 : 1;
+        make_session(&d, &plan, &s);
+        session_n = s.n;
+        if (!add_sessions() || !add_steps(reader_for_plan(&plan)))
+            return false;
+    }
+    return true;
+}
+
+static bool read_session(const char *path)
+{
+    FILE *f = fopen(path, "rb");
+    bool good;
+    if (f == NULL) {
+        perror(path);
+        return false;
+    }
+    session_n = fread(session, 1, sizeof session, f);
+    good = !ferror(f);
+    fclose(f);
+    if (!good)
+        fprintf(stderr, "corpus: %s cannot be read\n", path);
+    return good;
+}
+
+int main(int argc, char **argv)
+{
+    struct session_plan fresh = usual_plan();
+    if (argc < 3) {
+        fprintf(stderr, "usage: corpus FOLDER SESSION...\n");
+        return 2;
+    }
+    folder = argv[1];
+    for (int i = 2; i < argc; i++)
+        if (!read_session(argv[i]) || !add_sessions() || !add_steps(reader_for_plan(&fresh)))
+            return 1;
+    return add_made() ? 0 : 1;
+}

@@ -1,0 +1,570 @@
+/* nelqubat: a reader of one Top of Market session, for C.
+ *
+ * The library reads the server's SoupBinTCP bytes piece by piece, keeps a
+ * table of at most 256 instruments, saves and restores that table, and reads
+ * and writes single messages. It is built for x86-64 and is linked as
+ * libabi.a.
+ *
+ *   uint8_t handle[NELQUBAT_HANDLE_BYTES], table[NELQUBAT_TABLE_BYTES];
+ *   uint8_t event[NELQUBAT_RECORD_BYTES];
+ *   nelqubat_start(handle, sizeof handle, table, sizeof table);
+ *   for (;;) {
+ *       uint32_t a = nelqubat_step(handle, sizeof handle, table, sizeof table,
+ *                                  piece, n, event, sizeof event);
+ *       piece += nelqubat_taken(a);
+ *       n -= nelqubat_taken(a);
+ *       ... until nelqubat_kind(a) is more, ended or refused
+ *   }
+ *
+ * The host lends all memory, each as a pointer and a count of bytes, and the
+ * library keeps nothing between calls. A pointer must not be null, even where
+ * the count is 0. Memories that are lent to one call must not overlap, except
+ * that memory which is only read may be the same. Calls that share no memory
+ * may run at the same time. Nothing is allocated and nothing is printed.
+ *
+ * Numbers in lent memory are unsigned and big-endian, as on the wire.
+ */
+#ifndef NELQUBAT_H
+#define NELQUBAT_H
+
+#include <stddef.h>
+#include <stdint.h>
+
+#ifdef __cplusplus
+extern "C" {
+#endif
+
+/* Sizes, in bytes. */
+enum {
+    NELQUBAT_HANDLE_BYTES = 305,
+    NELQUBAT_ROW_BYTES = 124,
+    NELQUBAT_MAX_ROWS = 256,
+    NELQUBAT_TABLE_BYTES = 31744,  /* 256 rows of 124 */
+    NELQUBAT_RECORD_BYTES = 112,   /* a record; also the event memory */
+    NELQUBAT_BLOCK_BYTES = 512,
+    NELQUBAT_IMAGE_BYTES = 33280,  /* the longest image, 65 blocks */
+    NELQUBAT_MESSAGE_BYTES = 63,   /* the longest message, a directory */
+    NELQUBAT_PACKET_BYTES = 258,   /* the longest packet, its length included */
+    NELQUBAT_LINE_BYTES = 80,      /* more than any line of the listing */
+    NELQUBAT_SESSION_BYTES = 10
+};
+
+/* Why a call is refused. 1 to 6 and 10 to 16 come from a packet and stand in
+ * the handle from then on; 20 to 26 are about the call itself. */
+enum {
+    NELQUBAT_DONE = 0,
+    NELQUBAT_REFUSED_LENGTH = 1,          /* a packet's length is 0 or over 256 */
+    NELQUBAT_REFUSED_LETTER = 2,          /* a packet letter that is not known */
+    NELQUBAT_REFUSED_PLACE = 3,           /* a packet in the wrong place */
+    NELQUBAT_REFUSED_FORM = 4,            /* wrong length for A J H Z, or a bad login number */
+    NELQUBAT_REFUSED_LOGIN = 5,           /* another session, or a number that is not next */
+    NELQUBAT_REFUSED_NUMBERS = 6,         /* no message number is left */
+    NELQUBAT_REFUSED_MESSAGE = 10,        /* an empty message or an unknown letter */
+    NELQUBAT_REFUSED_MESSAGE_LENGTH = 11, /* wrong length for its letter */
+    NELQUBAT_REFUSED_FIELD = 12,          /* a field outside its list or range */
+    NELQUBAT_REFUSED_NO_ROW = 13,         /* state or quote for an id with no row */
+    NELQUBAT_REFUSED_NOT_TRADING = 14,    /* a quote, state not T or tradable not Y */
+    NELQUBAT_REFUSED_FIXED_FIELD = 15,    /* a directory changes a fixed field */
+    NELQUBAT_REFUSED_FULL = 16,           /* a new id, 256 rows in use */
+    NELQUBAT_REFUSED_MEMORY = 20,         /* wrong length, no handle, or a limit broken */
+    NELQUBAT_REFUSED_IMAGE_LENGTH = 21,   /* 0, not whole blocks, or over 65 blocks */
+    NELQUBAT_REFUSED_CHECK = 22,          /* a block's check is wrong */
+    NELQUBAT_REFUSED_HEAD = 23,           /* a block's number, count, version or next number */
+    NELQUBAT_REFUSED_CONTENTS = 24,       /* contents break the row or block rules */
+    NELQUBAT_REFUSED_SHORT = 25,          /* output memory too short */
+    NELQUBAT_REFUSED_RECORD = 26          /* no record, or it breaks its field rules */
+};
+
+/* One plain phrase for each number of refusal. */
+static inline const char *nelqubat_refusal_name(unsigned refusal)
+{
+    static const char *const names[27] = {
+        "done", "packet length is 0 or over 256", "packet letter is not known",
+        "packet in the wrong place", "packet has the wrong form",
+        "login for another session or number", "no message number is left", 0, 0, 0,
+        "message letter is not known", "message has the wrong length",
+        "message field outside its list or range", "no row has this id",
+        "instrument does not trade", "directory changes a fixed field",
+        "table is full", 0, 0, 0, "memory has the wrong length or is no handle",
+        "image length is wrong", "block check is wrong", "block head is wrong",
+        "contents break the row or block rules", "output memory is too short",
+        "record breaks its field rules"};
+    const char *name = refusal < 27 ? names[refusal] : 0;
+    return name ? name : "no refusal has this number";
+}
+
+/* What a step answers. */
+enum {
+    NELQUBAT_MORE = 0,      /* more bytes are wanted; the piece is used up */
+    NELQUBAT_LOGIN = 1,     /* login accepted: event memory has number and session */
+    NELQUBAT_REJECTED = 2,  /* login rejected: event memory has the reason */
+    NELQUBAT_MESSAGE = 3,   /* a message: event memory has its record */
+    NELQUBAT_HEARTBEAT = 4,
+    NELQUBAT_END = 5,       /* end of session */
+    NELQUBAT_SKIPPED = 6,   /* a packet that carries nothing for the reader */
+    NELQUBAT_ENDED = 7,     /* ended before this call */
+    NELQUBAT_REFUSED = 8
+};
+
+/* The parts of an answer. `kind` and `taken` are those of a step, `written`
+ * is that of save, write and line. */
+
+static inline unsigned nelqubat_refusal(uint32_t answer)
+{
+    return answer & 0xFF;
+}
+
+static inline unsigned nelqubat_kind(uint32_t answer)
+{
+    return answer >> 8 & 0xFF;
+}
+
+static inline size_t nelqubat_taken(uint32_t answer)
+{
+    return answer >> 16;
+}
+
+static inline size_t nelqubat_written(uint32_t answer)
+{
+    return answer >> 8;
+}
+
+/* The sizes above, as the library knows them. */
+size_t nelqubat_handle_size(void);
+size_t nelqubat_table_size(void);
+size_t nelqubat_record_size(void);
+
+/* Makes a fresh handle and fills the table with zeros.
+ * Answer: 0 or 20. Handle memory that is not 305 bytes: 20, and nothing
+ * changes. Table memory of the wrong length: 20, the table is left, and the
+ * handle is fresh. */
+uint32_t nelqubat_start(uint8_t *handle, size_t handle_n,
+                        uint8_t *table, size_t table_n);
+
+/* Takes bytes from the piece, up to the end of one packet.
+ * Answer: refusal, kind and the count of bytes taken, 258 at most. `more`
+ * takes the whole piece and holds it in the handle. An accepted packet is
+ * answered in the call that brings its last byte and changes table and handle
+ * all at once. A packet that is refused with 1 to 16 changes no row; the
+ * refusal then stands, and the same answer comes again with 0 bytes taken.
+ * 20, for any of the three memories or a handle that breaks a limit, comes
+ * before all else: nothing changes and 0 bytes are taken.
+ * The event memory has NELQUBAT_RECORD_BYTES. A login fills its first 18
+ * bytes, a rejected login its first, a message all of it; everything else of
+ * it stays as it was. */
+uint32_t nelqubat_step(uint8_t *handle, size_t handle_n,
+                       uint8_t *table, size_t table_n,
+                       const uint8_t *piece, size_t piece_n,
+                       uint8_t *event, size_t event_n);
+
+/* Writes the saved table, 512 bytes for each block, to the front of `out`.
+ * Answer: the count written, or 20 (handle, table, limits), 24 (the rows or
+ * the handle cannot be saved), 25 (out too short), and then `out` is as it
+ * was. Bytes of `out` after the count are as they were. Held bytes and a
+ * standing refusal are not saved. */
+uint32_t nelqubat_save(const uint8_t *handle, size_t handle_n,
+                       const uint8_t *table, size_t table_n,
+                       uint8_t *out, size_t out_n);
+
+/* Makes handle and table from an image; the handle waits for a login with the
+ * saved session and next number. What was in both before does not matter.
+ * Answer: 0, or 20 to 24. Handle memory that is not 305 bytes: 20, and
+ * nothing changes. Any other refusal leaves the table and makes the handle
+ * fresh. */
+uint32_t nelqubat_restore(uint8_t *handle, size_t handle_n,
+                          uint8_t *table, size_t table_n,
+                          const uint8_t *image, size_t image_n);
+
+/* Reads one message (no packet around it) into a record of 112 bytes.
+ * Answer: 0, or 20 (record memory), 10, 11, 12, and then the record memory is
+ * as it was. */
+uint32_t nelqubat_read(const uint8_t *bytes, size_t bytes_n,
+                       uint8_t *record, size_t record_n);
+
+/* Writes the message of a record to the front of `out`; reading it again
+ * gives the same record.
+ * Answer: the count written, or 20 (record memory), 26 (no record, or field
+ * rules broken), 25 (out too short), and then `out` is as it was. Bytes of
+ * `out` after the count are as they were. */
+uint32_t nelqubat_write(const uint8_t *record, size_t record_n,
+                        uint8_t *out, size_t out_n);
+
+/* Writes line k of the listing with its line feed, and no closing zero:
+ * `next N` for 0, then a line for each row, then `ok`, `end` or `refused N`.
+ * Answer: the count written, 0 for a k past the last line; or 20 (handle,
+ * table, limits), 25 (out too short), and then `out` is as it was. */
+uint32_t nelqubat_line(const uint8_t *handle, size_t handle_n,
+                       const uint8_t *table, size_t table_n,
+                       size_t k, uint8_t *out, size_t out_n);
+
+/* Big-endian numbers of 1 to 8 bytes. */
+
+static inline uint64_t nelqubat_get(const uint8_t *at, size_t width)
+{
+    uint64_t v = 0;
+    for (size_t i = 0; i < width; i++)
+        v = v << 8 | at[i];
+    return v;
+}
+
+static inline void nelqubat_set(uint8_t *at, size_t width, uint64_t v)
+{
+    for (size_t i = width; i-- > 0; v >>= 8)
+        at[i] = (uint8_t)v;
+}
+
+/* Where each field of a handle begins. */
+enum {
+    NELQUBAT_HANDLE_NEXT = 0,       /* 8: number of the next message */
+    NELQUBAT_HANDLE_LIVE = 8,       /* 8: live number, 0 for none */
+    NELQUBAT_HANDLE_ROWS = 16,      /* 8: rows in use */
+    NELQUBAT_HANDLE_HELD = 24,      /* 8: how many bytes are held */
+    NELQUBAT_HANDLE_SESSION = 32,   /* 10 */
+    NELQUBAT_HANDLE_KNOWN = 42,     /* 1: session known, 0 or 1 */
+    NELQUBAT_HANDLE_LOGGED_IN = 43, /* 1: 0 or 1 */
+    NELQUBAT_HANDLE_ENDED = 44,     /* 1: 0 or 1 */
+    NELQUBAT_HANDLE_REFUSAL = 45,   /* 1: standing refusal, 0 for none */
+    NELQUBAT_HANDLE_EVENT = 46,     /* 1: latest event code, 0 before any */
+    NELQUBAT_HANDLE_PACKET = 47     /* 258: held bytes of an unfinished packet */
+};
+
+static inline uint64_t nelqubat_handle_next(const uint8_t *handle)
+{
+    return nelqubat_get(handle + NELQUBAT_HANDLE_NEXT, 8);
+}
+
+static inline uint64_t nelqubat_handle_live(const uint8_t *handle)
+{
+    return nelqubat_get(handle + NELQUBAT_HANDLE_LIVE, 8);
+}
+
+static inline size_t nelqubat_handle_rows(const uint8_t *handle)
+{
+    return (size_t)nelqubat_get(handle + NELQUBAT_HANDLE_ROWS, 8);
+}
+
+static inline size_t nelqubat_handle_held(const uint8_t *handle)
+{
+    return (size_t)nelqubat_get(handle + NELQUBAT_HANDLE_HELD, 8);
+}
+
+static inline const uint8_t *nelqubat_handle_session(const uint8_t *handle)
+{
+    return handle + NELQUBAT_HANDLE_SESSION;
+}
+
+static inline int nelqubat_handle_known(const uint8_t *handle)
+{
+    return handle[NELQUBAT_HANDLE_KNOWN] != 0;
+}
+
+static inline int nelqubat_handle_logged_in(const uint8_t *handle)
+{
+    return handle[NELQUBAT_HANDLE_LOGGED_IN] != 0;
+}
+
+static inline int nelqubat_handle_ended(const uint8_t *handle)
+{
+    return handle[NELQUBAT_HANDLE_ENDED] != 0;
+}
+
+static inline unsigned nelqubat_handle_refusal(const uint8_t *handle)
+{
+    return handle[NELQUBAT_HANDLE_REFUSAL];
+}
+
+static inline uint8_t nelqubat_handle_event(const uint8_t *handle)
+{
+    return handle[NELQUBAT_HANDLE_EVENT];
+}
+
+/* The event memory after a login, and after a rejected login. */
+
+static inline uint64_t nelqubat_login_number(const uint8_t *event)
+{
+    return nelqubat_get(event, 8);
+}
+
+static inline const uint8_t *nelqubat_login_session(const uint8_t *event)
+{
+    return event + 8;
+}
+
+static inline uint8_t nelqubat_rejected_reason(const uint8_t *event)
+{
+    return event[0];
+}
+
+/* One side of a quote. */
+struct nelqubat_side {
+    uint32_t market, price, size, customer, professional;
+};
+
+static inline struct nelqubat_side nelqubat_side_at(const uint8_t *at)
+{
+    struct nelqubat_side side;
+    side.market = (uint32_t)nelqubat_get(at, 4);
+    side.price = (uint32_t)nelqubat_get(at + 4, 4);
+    side.size = (uint32_t)nelqubat_get(at + 8, 4);
+    side.customer = (uint32_t)nelqubat_get(at + 12, 4);
+    side.professional = (uint32_t)nelqubat_get(at + 16, 4);
+    return side;
+}
+
+/* Where each field of a message's record begins. The places are the same for
+ * all letters; what a letter lacks is 0. */
+enum {
+    NELQUBAT_RECORD_LETTER = 0,      /* 1: S m H q Q b a B A M */
+    NELQUBAT_RECORD_CODE = 1,        /* 1: event code (S), state (H), condition (quotes) */
+    NELQUBAT_RECORD_TRACKING = 2,    /* 2: all but M */
+    NELQUBAT_RECORD_ID = 4,          /* 4: all but S and M */
+    NELQUBAT_RECORD_TIME = 8,        /* 8: nanoseconds of the day, all but M */
+    NELQUBAT_RECORD_NUMBER = 16,     /* 8: M */
+    NELQUBAT_RECORD_BID = 24,        /* 20: q b in pennies, Q B in 1/10000 dollar */
+    NELQUBAT_RECORD_ASK = 44,        /* 20: q a, Q A likewise */
+    NELQUBAT_RECORD_STRIKE = 64,     /* 4: from here on m only */
+    NELQUBAT_RECORD_YEAR = 68,       /* 1 */
+    NELQUBAT_RECORD_MONTH = 69,      /* 1 */
+    NELQUBAT_RECORD_DAY = 70,        /* 1 */
+    NELQUBAT_RECORD_TYPE = 71,       /* 1: C P N */
+    NELQUBAT_RECORD_CLOSING = 72,    /* 1: N L W */
+    NELQUBAT_RECORD_TRADABLE = 73,   /* 1: Y N */
+    NELQUBAT_RECORD_VARIATION = 74,  /* 1: E S P */
+    NELQUBAT_RECORD_SYMBOL = 75,     /* 8: padded with spaces */
+    NELQUBAT_RECORD_UNDERLYING = 83, /* 13: padded with spaces */
+    NELQUBAT_RECORD_RESERVED = 96    /* 16: any bytes */
+};
+
+static inline uint8_t nelqubat_record_letter(const uint8_t *record)
+{
+    return record[NELQUBAT_RECORD_LETTER];
+}
+
+static inline uint8_t nelqubat_record_code(const uint8_t *record)
+{
+    return record[NELQUBAT_RECORD_CODE];
+}
+
+static inline uint16_t nelqubat_record_tracking(const uint8_t *record)
+{
+    return (uint16_t)nelqubat_get(record + NELQUBAT_RECORD_TRACKING, 2);
+}
+
+static inline uint32_t nelqubat_record_id(const uint8_t *record)
+{
+    return (uint32_t)nelqubat_get(record + NELQUBAT_RECORD_ID, 4);
+}
+
+static inline uint64_t nelqubat_record_time(const uint8_t *record)
+{
+    return nelqubat_get(record + NELQUBAT_RECORD_TIME, 8);
+}
+
+static inline uint64_t nelqubat_record_number(const uint8_t *record)
+{
+    return nelqubat_get(record + NELQUBAT_RECORD_NUMBER, 8);
+}
+
+static inline struct nelqubat_side nelqubat_record_bid(const uint8_t *record)
+{
+    return nelqubat_side_at(record + NELQUBAT_RECORD_BID);
+}
+
+static inline struct nelqubat_side nelqubat_record_ask(const uint8_t *record)
+{
+    return nelqubat_side_at(record + NELQUBAT_RECORD_ASK);
+}
+
+static inline uint32_t nelqubat_record_strike(const uint8_t *record)
+{
+    return (uint32_t)nelqubat_get(record + NELQUBAT_RECORD_STRIKE, 4);
+}
+
+static inline uint8_t nelqubat_record_year(const uint8_t *record)
+{
+    return record[NELQUBAT_RECORD_YEAR];
+}
+
+static inline uint8_t nelqubat_record_month(const uint8_t *record)
+{
+    return record[NELQUBAT_RECORD_MONTH];
+}
+
+static inline uint8_t nelqubat_record_day(const uint8_t *record)
+{
+    return record[NELQUBAT_RECORD_DAY];
+}
+
+static inline uint8_t nelqubat_record_type(const uint8_t *record)
+{
+    return record[NELQUBAT_RECORD_TYPE];
+}
+
+static inline uint8_t nelqubat_record_closing(const uint8_t *record)
+{
+    return record[NELQUBAT_RECORD_CLOSING];
+}
+
+static inline uint8_t nelqubat_record_tradable(const uint8_t *record)
+{
+    return record[NELQUBAT_RECORD_TRADABLE];
+}
+
+static inline uint8_t nelqubat_record_variation(const uint8_t *record)
+{
+    return record[NELQUBAT_RECORD_VARIATION];
+}
+
+/* The three texts have no closing zero: 8, 13 and 16 bytes. */
+
+static inline const uint8_t *nelqubat_record_symbol(const uint8_t *record)
+{
+    return record + NELQUBAT_RECORD_SYMBOL;
+}
+
+static inline const uint8_t *nelqubat_record_underlying(const uint8_t *record)
+{
+    return record + NELQUBAT_RECORD_UNDERLYING;
+}
+
+static inline const uint8_t *nelqubat_record_reserved(const uint8_t *record)
+{
+    return record + NELQUBAT_RECORD_RESERVED;
+}
+
+/* Where each field of a table's row begins. */
+enum {
+    NELQUBAT_ROW_ID = 0,          /* 4 */
+    NELQUBAT_ROW_SYMBOL = 4,      /* 8 */
+    NELQUBAT_ROW_YEAR = 12,       /* 1 */
+    NELQUBAT_ROW_MONTH = 13,      /* 1 */
+    NELQUBAT_ROW_DAY = 14,        /* 1 */
+    NELQUBAT_ROW_STRIKE = 15,     /* 4 */
+    NELQUBAT_ROW_TYPE = 19,       /* 1 */
+    NELQUBAT_ROW_UNDERLYING = 20, /* 13 */
+    NELQUBAT_ROW_CLOSING = 33,    /* 1 */
+    NELQUBAT_ROW_TRADABLE = 34,   /* 1 */
+    NELQUBAT_ROW_VARIATION = 35,  /* 1 */
+    NELQUBAT_ROW_RESERVED = 36,   /* 16 */
+    NELQUBAT_ROW_STATE = 52,      /* 1: trading state, 0 before any */
+    NELQUBAT_ROW_CONDITION = 53,  /* 1 */
+    NELQUBAT_ROW_SIDES = 54,      /* 1: sides seen, 1 bid and 2 ask, summed */
+    NELQUBAT_ROW_BID = 56,        /* 20 */
+    NELQUBAT_ROW_ASK = 76,        /* 20 */
+    NELQUBAT_ROW_TRACKING = 96,   /* 2: of the row's latest message */
+    NELQUBAT_ROW_TIME = 98        /* 8: of the row's latest message */
+};
+
+/* Row k of a table, k below the handle's rows in use. */
+static inline const uint8_t *nelqubat_row(const uint8_t *table, size_t k)
+{
+    return table + k * NELQUBAT_ROW_BYTES;
+}
+
+static inline uint32_t nelqubat_row_id(const uint8_t *row)
+{
+    return (uint32_t)nelqubat_get(row + NELQUBAT_ROW_ID, 4);
+}
+
+static inline const uint8_t *nelqubat_row_symbol(const uint8_t *row)
+{
+    return row + NELQUBAT_ROW_SYMBOL;
+}
+
+static inline uint8_t nelqubat_row_year(const uint8_t *row)
+{
+    return row[NELQUBAT_ROW_YEAR];
+}
+
+static inline uint8_t nelqubat_row_month(const uint8_t *row)
+{
+    return row[NELQUBAT_ROW_MONTH];
+}
+
+static inline uint8_t nelqubat_row_day(const uint8_t *row)
+{
+    return row[NELQUBAT_ROW_DAY];
+}
+
+static inline uint32_t nelqubat_row_strike(const uint8_t *row)
+{
+    return (uint32_t)nelqubat_get(row + NELQUBAT_ROW_STRIKE, 4);
+}
+
+static inline uint8_t nelqubat_row_type(const uint8_t *row)
+{
+    return row[NELQUBAT_ROW_TYPE];
+}
+
+static inline const uint8_t *nelqubat_row_underlying(const uint8_t *row)
+{
+    return row + NELQUBAT_ROW_UNDERLYING;
+}
+
+static inline uint8_t nelqubat_row_closing(const uint8_t *row)
+{
+    return row[NELQUBAT_ROW_CLOSING];
+}
+
+static inline uint8_t nelqubat_row_tradable(const uint8_t *row)
+{
+    return row[NELQUBAT_ROW_TRADABLE];
+}
+
+static inline uint8_t nelqubat_row_variation(const uint8_t *row)
+{
+    return row[NELQUBAT_ROW_VARIATION];
+}
+
+static inline const uint8_t *nelqubat_row_reserved(const uint8_t *row)
+{
+    return row + NELQUBAT_ROW_RESERVED;
+}
+
+static inline uint8_t nelqubat_row_state(const uint8_t *row)
+{
+    return row[NELQUBAT_ROW_STATE];
+}
+
+static inline uint8_t nelqubat_row_condition(const uint8_t *row)
+{
+    return row[NELQUBAT_ROW_CONDITION];
+}
+
+static inline int nelqubat_row_has_bid(const uint8_t *row)
+{
+    return (row[NELQUBAT_ROW_SIDES] & 1) != 0;
+}
+
+static inline int nelqubat_row_has_ask(const uint8_t *row)
+{
+    return (row[NELQUBAT_ROW_SIDES] & 2) != 0;
+}
+
+/* Prices of a row are in ten-thousandths of a dollar. */
+
+static inline struct nelqubat_side nelqubat_row_bid(const uint8_t *row)
+{
+    return nelqubat_side_at(row + NELQUBAT_ROW_BID);
+}
+
+static inline struct nelqubat_side nelqubat_row_ask(const uint8_t *row)
+{
+    return nelqubat_side_at(row + NELQUBAT_ROW_ASK);
+}
+
+static inline uint16_t nelqubat_row_tracking(const uint8_t *row)
+{
+    return (uint16_t)nelqubat_get(row + NELQUBAT_ROW_TRACKING, 2);
+}
+
+static inline uint64_t nelqubat_row_time(const uint8_t *row)
+{
+    return nelqubat_get(row + NELQUBAT_ROW_TIME, 8);
+}
+
+#ifdef __cplusplus
+}
+#endif
+
+#endif

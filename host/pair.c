@@ -1,0 +1,323 @@
+#include "pair.h"
+
+#include "oracle.h"
+
+#include <stdio.h>
+#include <string.h>
+
+/* What is compared when. After every call: every bit of the answer, and every
+ * byte of the handle's, event's, record's and output's memory with the guards
+ * around them. The table: whole, guards included, after every start and
+ * restore, after every call of a thorough case (as are all replayed and shrunk
+ * ones), and otherwise after every 64th step and at the end of each case; in
+ * between, after each step, the first sixteen rows in use and the guards. */
+enum { WHOLE_EVERY = 64, ROWS_EACH_STEP = 16 };
+
+enum { GUARD_FILL = 0xA5, MEMORY_FILL = 0xC3 };
+
+/* The functions of either side. */
+struct functions {
+    uint32_t (*start)(uint8_t *, size_t, uint8_t *, size_t);
+    uint32_t (*step)(uint8_t *, size_t, uint8_t *, size_t, const uint8_t *, size_t,
+                     uint8_t *, size_t);
+    uint32_t (*save)(const uint8_t *, size_t, const uint8_t *, size_t, uint8_t *, size_t);
+    uint32_t (*restore)(uint8_t *, size_t, uint8_t *, size_t, const uint8_t *, size_t);
+    uint32_t (*read)(const uint8_t *, size_t, uint8_t *, size_t);
+    uint32_t (*write)(const uint8_t *, size_t, uint8_t *, size_t);
+    uint32_t (*line)(const uint8_t *, size_t, const uint8_t *, size_t, size_t,
+                     uint8_t *, size_t);
+};
+
+static const struct functions plain_functions = {
+    oracle_start, oracle_step, oracle_save, oracle_restore,
+    oracle_read, oracle_write, oracle_line};
+
+/* Inputs for the fuzzing target can also be looked for on a machine that the
+ * library is not built for: the plain reader then stands on both sides. */
+#ifdef PAIR_WITHOUT_LIBRARY
+#define library_functions plain_functions
+#else
+static const struct functions library_functions = {
+    nelqubat_start, nelqubat_step, nelqubat_save, nelqubat_restore,
+    nelqubat_read, nelqubat_write, nelqubat_line};
+#endif
+
+static const char *const names[OPERATIONS] = {
+    "start", "step", "feed", "save", "restore", "resume", "read", "write", "line"};
+
+const char *operation_name(enum operation op)
+{
+    return names[op];
+}
+
+struct call usual_call(enum operation op)
+{
+    struct call c = {op, NELQUBAT_HANDLE_BYTES, NELQUBAT_TABLE_BYTES,
+                     NELQUBAT_RECORD_BYTES, 0, 0};
+    if (op == CALL_SAVE || op == CALL_RESUME)
+        c.memory_n = NELQUBAT_IMAGE_BYTES;
+    return c;
+}
+
+static bool writes_image(enum operation op)
+{
+    return op == CALL_SAVE || op == CALL_RESUME;
+}
+
+bool call_fits(const struct call *c)
+{
+    return c->op < OPERATIONS && c->handle_n <= HANDLE_ROOM && c->table_n <= TABLE_ROOM &&
+           c->memory_n <= (writes_image(c->op) ? IMAGE_ROOM : SMALL_ROOM) &&
+           c->input_n <= INPUT_ROOM;
+}
+
+static void fill_memory(uint8_t *memory, size_t room, const uint8_t *bytes)
+{
+    memset(memory, GUARD_FILL, GUARD_BYTES);
+    if (bytes != NULL)
+        memcpy(memory + GUARD_BYTES, bytes, room);
+    else
+        memset(memory + GUARD_BYTES, MEMORY_FILL, room);
+    memset(memory + GUARD_BYTES + room, GUARD_FILL, GUARD_BYTES);
+}
+
+static void fill_world(struct world *w, const uint8_t *handle,
+                       const uint8_t *table, bool image)
+{
+    fill_memory(w->handle, HANDLE_ROOM, handle);
+    fill_memory(w->table, TABLE_ROOM, table);
+    fill_memory(w->small, SMALL_ROOM, NULL);
+    if (image)
+        fill_memory(w->image, IMAGE_ROOM, NULL);
+}
+
+void pair_fill(struct pair *p, const uint8_t *handle, const uint8_t *table,
+               bool saves)
+{
+    bool image = saves || p->image_used;
+    fill_world(&p->library, handle, table, image);
+    fill_world(&p->plain, handle, table, image);
+    p->image_used = saves;
+    p->since = 0;
+    p->idle = 0;
+    p->saved = 0;
+    p->difference[0] = 0;
+}
+
+/* Says where two memories differ first. */
+static bool differ_at(struct pair *p, const char *name, const uint8_t *library,
+                      const uint8_t *plain, size_t n)
+{
+    size_t i = 0;
+    while (i < n && library[i] == plain[i])
+        i++;
+    snprintf(p->difference, sizeof p->difference,
+             "%s: %s byte %ld is %02X, should be %02X", operation_name(p->doing),
+             name, (long)i - GUARD_BYTES, library[i], plain[i]);
+    return false;
+}
+
+static bool same_memory(struct pair *p, const char *name, const uint8_t *library,
+                        const uint8_t *plain, size_t n)
+{
+    if (memcmp(library, plain, n) == 0)
+        return true;
+    return differ_at(p, name, library, plain, n);
+}
+
+static bool same_whole_table(struct pair *p)
+{
+    p->since = 0;
+    return same_memory(p, "table", p->library.table, p->plain.table,
+                       sizeof p->plain.table);
+}
+
+/* The first rows in use, the guard before them and the spare bytes and guard
+ * after the table. */
+static bool same_rows(struct pair *p)
+{
+    uint64_t rows = nelqubat_get(p->plain.handle + GUARD_BYTES + NELQUBAT_HANDLE_ROWS, 8);
+    size_t near = GUARD_BYTES + NELQUBAT_ROW_BYTES * (size_t)(rows < ROWS_EACH_STEP ? rows : ROWS_EACH_STEP);
+    size_t far = GUARD_BYTES + NELQUBAT_TABLE_BYTES;
+    if (memcmp(p->library.table + far, p->plain.table + far,
+               sizeof p->plain.table - far) != 0)
+        return same_whole_table(p);
+    return same_memory(p, "table", p->library.table, p->plain.table, near);
+}
+
+static bool same_table(struct pair *p, enum operation op)
+{
+    if (p->thorough || op == CALL_START || op == CALL_RESTORE ||
+        (op == CALL_STEP && ++p->since >= WHOLE_EVERY))
+        return same_whole_table(p);
+    return op != CALL_STEP || same_rows(p);
+}
+
+static bool same_handle_and_small(struct pair *p)
+{
+    return same_memory(p, "handle", p->library.handle, p->plain.handle,
+                       sizeof p->plain.handle) &&
+           same_memory(p, "event, record or output", p->library.small, p->plain.small,
+                       sizeof p->plain.small);
+}
+
+static bool same_image(struct pair *p)
+{
+    return same_memory(p, "image", p->library.image, p->plain.image,
+                       sizeof p->plain.image);
+}
+
+bool pair_same(struct pair *p)
+{
+    return same_handle_and_small(p) && same_whole_table(p) && same_image(p);
+}
+
+static uint32_t make_call(const struct functions *f, struct world *w,
+                          const struct call *c, const uint8_t *input, size_t n)
+{
+    uint8_t *handle = w->handle + GUARD_BYTES, *table = w->table + GUARD_BYTES;
+    uint8_t *small = w->small + GUARD_BYTES, *image = w->image + GUARD_BYTES;
+    switch (c->op) {
+    case CALL_START:
+        return f->start(handle, c->handle_n, table, c->table_n);
+    case CALL_SAVE:
+        return f->save(handle, c->handle_n, table, c->table_n, image, c->memory_n);
+    case CALL_RESTORE:
+        return f->restore(handle, c->handle_n, table, c->table_n, input, n);
+    case CALL_READ:
+        return f->read(input, n, small, c->memory_n);
+    case CALL_WRITE:
+        return f->write(input, n, small, c->memory_n);
+    case CALL_LINE:
+        return f->line(handle, c->handle_n, table, c->table_n, (size_t)c->k, small,
+                       c->memory_n);
+    default:
+        return f->step(handle, c->handle_n, table, c->table_n, input, n, small,
+                       c->memory_n);
+    }
+}
+
+static bool same_answer(struct pair *p, uint32_t got, uint32_t wanted)
+{
+    if (got == wanted)
+        return true;
+    snprintf(p->difference, sizeof p->difference,
+             "%s: answer is %08X, should be %08X", operation_name(p->doing),
+             (unsigned)got, (unsigned)wanted);
+    return false;
+}
+
+/* A packet was finished, by acceptance or refusal. */
+static bool ends_packet(uint32_t answer)
+{
+    return nelqubat_kind(answer) != NELQUBAT_MORE && nelqubat_taken(answer) != 0;
+}
+
+/* One call on both sides, each with its own input; all but the table is
+ * compared here in full. */
+static bool call_both(struct pair *p, const struct call *c, const uint8_t *library_input,
+                      const uint8_t *plain_input, size_t n)
+{
+    uint32_t got;
+    p->doing = c->op;
+    p->calls++;
+    got = make_call(&library_functions, &p->library, c, library_input, n);
+    p->answer = make_call(&plain_functions, &p->plain, c, plain_input, n);
+    if (c->op == CALL_STEP && ends_packet(p->answer))
+        p->packets++;
+    if (c->op == CALL_SAVE)
+        p->saved = nelqubat_written(p->answer);
+    return same_answer(p, got, p->answer) && same_handle_and_small(p) &&
+           same_table(p, c->op) && (c->op != CALL_SAVE || same_image(p));
+}
+
+static bool same_input(struct pair *p, const uint8_t *input, size_t n)
+{
+    if (n == 0 || memcmp(p->input, input, n) == 0)
+        return true;
+    snprintf(p->difference, sizeof p->difference, "%s: the input was written to",
+             operation_name(p->doing));
+    return false;
+}
+
+/* A call with its input, which the library must leave as it is. */
+static bool call_once(struct pair *p, const struct call *c, const uint8_t *input)
+{
+    if (c->input_n != 0)
+        memcpy(p->input, input, c->input_n);
+    return call_both(p, c, p->input, input, c->input_n) &&
+           same_input(p, input, c->input_n);
+}
+
+/* Steps through a piece. A reader that takes no more is asked twice more;
+ * later feeds are passed over. */
+static bool feed(struct pair *p, const struct call *c, const uint8_t *input)
+{
+    struct call step = *c;
+    size_t at = 0;
+    unsigned kind;
+    step.op = CALL_STEP;
+    if (p->idle > 2)
+        return true;
+    if (c->input_n != 0)
+        memcpy(p->input, input, c->input_n);
+    do {
+        if (!call_both(p, &step, p->input + at, input + at, c->input_n - at))
+            return false;
+        kind = nelqubat_kind(p->answer);
+        at += nelqubat_taken(p->answer);
+    } while (kind != NELQUBAT_MORE && kind != NELQUBAT_ENDED && kind != NELQUBAT_REFUSED);
+    if (kind != NELQUBAT_MORE)
+        p->idle++;
+    return same_input(p, input, c->input_n);
+}
+
+/* Saves, restores from what was saved, and logs in where the table stopped. */
+static bool resume(struct pair *p, const struct call *c)
+{
+    static uint8_t image[IMAGE_ROOM];
+    struct call save = *c, restore = usual_call(CALL_RESTORE), login = usual_call(CALL_FEED);
+    uint8_t packet[34];
+    const uint8_t *handle = p->plain.handle + GUARD_BYTES;
+    save.op = CALL_SAVE;
+    if (!call_once(p, &save, NULL))
+        return false;
+    if (p->saved == 0)
+        return true;
+    memcpy(image, p->plain.image + GUARD_BYTES, p->saved);
+    restore.input_n = (uint32_t)p->saved;
+    if (!call_once(p, &restore, image))
+        return false;
+    p->idle = 0;
+    snprintf((char *)packet + 13, 21, "%20llu", (unsigned long long)nelqubat_handle_next(handle));
+    memcpy(packet, "\x00\x1F" "A", 3);
+    memcpy(packet + 3, nelqubat_handle_session(handle), NELQUBAT_SESSION_BYTES);
+    login.input_n = 33;
+    return feed(p, &login, packet);
+}
+
+bool pair_call(struct pair *p, const struct call *c, const uint8_t *input)
+{
+    if (c->op == CALL_FEED)
+        return feed(p, c, input);
+    if (c->op == CALL_RESUME)
+        return resume(p, c);
+    if (c->op == CALL_START || c->op == CALL_RESTORE)
+        p->idle = 0;
+    return call_once(p, c, input);
+}
+
+#ifndef PAIR_WITHOUT_LIBRARY
+bool pair_sizes(struct pair *p)
+{
+    if (nelqubat_handle_size() == NELQUBAT_HANDLE_BYTES &&
+        nelqubat_table_size() == NELQUBAT_TABLE_BYTES &&
+        nelqubat_record_size() == NELQUBAT_RECORD_BYTES)
+        return true;
+    snprintf(p->difference, sizeof p->difference,
+             "the library's sizes are %zu, %zu, %zu, should be %d, %d, %d",
+             nelqubat_handle_size(), nelqubat_table_size(), nelqubat_record_size(),
+             NELQUBAT_HANDLE_BYTES, NELQUBAT_TABLE_BYTES, NELQUBAT_RECORD_BYTES);
+    return false;
+}
+#endif

@@ -1,0 +1,83 @@
+/* Two worlds of lent memory, one for the library and one for the plain
+ * reader, and calls that are made on both and compared.
+ */
+#ifndef PAIR_H
+#define PAIR_H
+
+#include "nelqubat.h"
+#include "plain.h"
+
+/* Bytes around each lent memory, and the most that is lent of each. Lengths
+ * are wrong on purpose now and then, so there is room for longer ones. */
+enum {
+    GUARD_BYTES = 64,
+    SPARE_BYTES = 200,
+    HANDLE_ROOM = NELQUBAT_HANDLE_BYTES + SPARE_BYTES,
+    TABLE_ROOM = NELQUBAT_TABLE_BYTES + SPARE_BYTES,
+    SMALL_ROOM = NELQUBAT_RECORD_BYTES + SPARE_BYTES, /* event, record, line, message */
+    IMAGE_ROOM = NELQUBAT_IMAGE_BYTES + SPARE_BYTES,  /* where a table is saved */
+    INPUT_ROOM = 1 << 18                              /* the longest input */
+};
+
+/* The calls. `feed` steps through its input until the reader wants more, has
+ * ended or refuses. `resume` saves, restores what was saved and logs in again. */
+enum operation {
+    CALL_START, CALL_STEP, CALL_FEED, CALL_SAVE, CALL_RESTORE, CALL_RESUME,
+    CALL_READ, CALL_WRITE, CALL_LINE,
+    OPERATIONS
+};
+
+const char *operation_name(enum operation op);
+
+/* One call: the lengths that are lent, and how many bytes of input it has:
+ * a piece, an image, a message's bytes or a record. */
+struct call {
+    enum operation op;
+    uint32_t handle_n, table_n;
+    uint32_t memory_n; /* event, record or out memory */
+    uint32_t input_n;
+    uint64_t k; /* the line that is asked for */
+};
+
+/* A call that lends every memory with its right length, and much for output. */
+struct call usual_call(enum operation op);
+
+/* Whether a call's lengths fit the worlds' memory. */
+bool call_fits(const struct call *c);
+
+struct world {
+    uint8_t handle[GUARD_BYTES + HANDLE_ROOM + GUARD_BYTES];
+    uint8_t table[GUARD_BYTES + TABLE_ROOM + GUARD_BYTES];
+    uint8_t small[GUARD_BYTES + SMALL_ROOM + GUARD_BYTES];
+    uint8_t image[GUARD_BYTES + IMAGE_ROOM + GUARD_BYTES];
+};
+
+struct pair {
+    struct world library, plain;
+    uint8_t input[INPUT_ROOM];  /* the library's copy of a call's input */
+    bool thorough;              /* compare the whole table after every call */
+    unsigned since;             /* steps since the whole table was compared */
+    unsigned idle;              /* feeds since the reader takes no more */
+    bool image_used;            /* image memory was written to since it was filled */
+    size_t saved;               /* bytes that the latest save wrote */
+    uint32_t answer;            /* what the plain reader answered last */
+    enum operation doing;       /* the call under way */
+    unsigned long packets, calls;
+    char difference[200];       /* the first difference, in words */
+};
+
+/* Gives both worlds the same memory: handle and table as they are given (with
+ * HANDLE_ROOM and TABLE_ROOM bytes), all else filled with fixed bytes. */
+void pair_fill(struct pair *p, const uint8_t *handle, const uint8_t *table,
+               bool saves);
+
+/* Makes one call on both and compares: false on a difference. */
+bool pair_call(struct pair *p, const struct call *c, const uint8_t *input);
+
+/* Compares all memory. */
+bool pair_same(struct pair *p);
+
+/* Compares the sizes that the library states with those of the header. */
+bool pair_sizes(struct pair *p);
+
+#endif
