@@ -1,0 +1,330 @@
+-- The ways through the calls: a law for each.
+-- Assumes nothing.
+use mathlib.Core.Path.{_≡_, refl, sym, ap, _∙_}
+use mathlib.Core.Bool.{Bool, true, false, not, cond, _&&_}
+use mathlib.Core.List.{List, _++_}
+use Prim.Native.Nat.{ℕ, _+_, _*_, _≤_, _<_}
+use native.Mathlib.Omega.{arith}
+use borrow.Author.Tests.{eq-eqb, ne-eqb, le-leb, lt-leb, leb-true}
+use lib.Dec.{eqb, leb}
+use lib.ListN.{length, drop, take, replicate}
+use lib.Seq.{length-take-le, take-at}
+use Rattle.field.specs.Bytes.{part, overlay, bytesBe}
+use Rattle.field.specs.Limits.{numberInRange}
+use Rattle.field.proofs.Parts.{part-length, part-whole, overlay-whole, overlay-next}
+use Rattle.field.proofs.Numbers.{digits-length}
+use Rattle.field.proofs.Bools.{both-left, both-right}
+use Rattle.packet.specs.Stream as stream
+use Rattle.packet.specs.Stream.{State, stepOf}
+use Rattle.packet.specs.Session.{Session, Event, soupBinTCP}
+use Rattle.packet.specs.Frame.{heldSize}
+use Rattle.packet.proofs.Rules.{not-call, not-not-call}
+use Rattle.packet.proofs.Step.{step-most}
+use Rattle.handle.specs.Handle.{headSize, handleSize, isHandle, headOf, headBytes}
+use Rattle.handle.specs.declared.Head.{Head}
+use Rattle.handle.proofs.Rounds.{handle-length}
+use Rattle.record.specs.Places.{recordSize}
+use Rattle.record.specs.Record.{Answered, answered, recordBytes}
+use Rattle.reader.specs.Deliver.{Table, Said, deliver}
+use Rattle.reader.specs.Refusals.{refusalNumber}
+use Rattle.reader.specs.View.{Seen, readerWith, headPart, stateOf, seenOf, seen, eventOf, answerOf}
+use Rattle.reader.specs.Limits.{withinLimits}
+use Rattle.reader.specs.Calls.{Begun, begunOf, startAll, Starting, startNumber, Lent, lentOf, LentStepping, stepAll, unfit}
+use Rattle.reader.specs.Saving.{Restores, restoreAll, headerOf, Saves, saveAll}
+use Rattle.reader.specs.declared.Reader.{Reader}
+use Rattle.reader.specs.declared.Moved.{Moved}
+use Rattle.reader.specs.declared.Started.{Started}
+use Rattle.reader.specs.declared.Restored.{Restored}
+use Rattle.reader.specs.declared.Refusal.{Refusal}
+use Rattle.reader.specs.declared.Texts.{Texts}
+use Rattle.reader.specs.declared.Event as code
+use Rattle.reader.specs.declared.Event.the-variants as event
+use Rattle.reader.specs.declared.StepAnswer.{StepAnswer}
+use Rattle.reader.specs.declared.StepAnswer.the-variants as answer
+use Rattle.reader.specs.declared.StartAnswer.{StartAnswer}
+use Rattle.reader.specs.declared.StartAnswer.the-variants as started
+use Rattle.image.specs.Header as images
+use Rattle.image.specs.Header.{headerKeeps}
+use Rattle.image.specs.Save.{Saving, saving, unsaved, sizeFor, imageOf, saveOf}
+use Rattle.image.specs.Shape.{blocksFor, pagesFor}
+use Rattle.image.specs.declared.Header.{Header}
+use Rattle.image.specs.declared.Refusal.the-variants.{Misfit, BadContents, ShortOutput}
+use Rattle.image.specs.declared.Saved.{Saved}
+use Rattle.image.specs.declared.Saved.the-variants as saved
+use Rattle.table.specs.Memory.{mostRows, tableSize}
+use Rattle.table.specs.Board.{fits}
+use Rattle.table.specs.Rules.{rowsKeep}
+use Rattle.message.specs.declared.Message.{Message}
+use Rattle.listing.specs.Lines.{lineOf, lineWith}
+use Rattle.listing.specs.declared.Text.{Text}
+use Rattle.listing.specs.declared.Ending.{Ending}
+use Rattle.listing.specs.declared.Ending.the-variants as ending
+use Rattle.abi.specs.Host.{readerIn, handleBytes, noHeld, headIn, left, unheld, startedAs, startHost, verdictNumber, restoredAs, restoreHost, loginBytes, toldEvent, told, Gone, goneTo, movedBy, movedOf, hostStepped, steppedAs, stepHost, savedNumber, savedAs, SavedFits, saveHost, endingOf, lineTo, textOf, lineHost}
+use Rattle.abi.proofs.Heads.{head-in, memory-in, put-over}
+
+-- ---- a reader that holds nothing, over a handle
+
+unheld-as : (r : Reader) (memory handle : List ℕ) (h : Head) (n : ℕ) → h ≡ headPart r → handle ≡ handleBytes h noHeld
+    → left n handle memory ≡ unheld n (stateOf r memory) (r .used)
+unheld-as r memory handle h n e f =
+    ap (λ (x : List ℕ). left n x memory) (f ∙ ap (λ (x : Head). handleBytes x noHeld) (e ∙ sym (head-in r memory)))
+    ∙ ap (left n (handleBytes (headIn (stateOf r memory) (r .used)) noHeld)) (sym (memory-in r memory))
+
+-- ---- starting and restoring
+
+module _ (handle table : List ℕ) where
+  pub start-misfit : (length handle ≡ handleSize → ⊥) → left 20 handle table ≡ startHost handle table
+  unfolding startHost
+  start-misfit d = rw (ne-eqb (length handle) handleSize d)
+
+  pub start-goes : (handle′ table′ : List ℕ) (s : Started) (h : Head) {n : ℕ} → length handle ≡ handleSize → Starting table s table′ → h ≡ headPart (s .reader)
+      → handle′ ≡ handleBytes h noHeld → n ≡ startNumber (s .answer) → left n handle′ table′ ≡ startHost handle table
+  unfolding startHost
+  start-goes handle′ table′ s h l e f g i =
+      rw (eq-eqb (length handle) handleSize l, i) (unheld-as (s .reader) table′ handle′ h (startNumber (s .answer)) f g ∙ ap startedAs e)
+
+  pub restore-misfit : (image : List ℕ) → (length handle ≡ handleSize → ⊥) → left 20 handle table ≡ restoreHost handle table image
+  unfolding restoreHost
+  restore-misfit image d = rw (ne-eqb (length handle) handleSize d)
+
+  pub restore-goes : (image handle′ table′ : List ℕ) (r : Restored) (h : Head) {n : ℕ} → length handle ≡ handleSize → Restores image table r table′ → h ≡ headPart (r .reader)
+      → handle′ ≡ handleBytes h noHeld → n ≡ verdictNumber (r .verdict) → left n handle′ table′ ≡ restoreHost handle table image
+  unfolding restoreHost
+  restore-goes image handle′ table′ r h l e f g i =
+      rw (eq-eqb (length handle) handleSize l, i) (unheld-as (r .reader) table′ handle′ h (verdictNumber (r .verdict)) f g ∙ ap restoredAs e)
+
+-- ---- a step of a handle where it lies
+
+abbrev goneWith : Lent → Gone
+goneWith l = goneTo (l .call) (l .held)
+
+pub moves : (handle table piece : List ℕ) (h : Head) (m : Moved) (held first handle′ table′ : List ℕ) → length handle ≡ handleSize → length held ≡ heldSize
+    → length (m .head .line .session) ≡ 10 → h ≡ headOf handle → LentStepping h (part handle headSize heldSize) table piece m held table′
+    → first ≡ overlay handle headSize held → handle′ ≡ overlay first 0 (headBytes (m .head))
+    → movedOf m handle′ table′ ≡ movedBy handle table piece
+unfolding movedBy
+moves handle table piece h m held first handle′ table′ l k ten e f g i =
+    let r = readerWith (m .head) held in
+    ap (λ (x : List ℕ). movedOf m x table′)
+    (put-over (m .head) handle held first handle′ ten l k g i ∙ ap (λ (x : Head). handleBytes x held) (sym (head-in r table′)))
+    ∙ ap (movedOf m (handleBytes (headIn (stateOf r table′) (r .used)) held)) (sym (memory-in r table′))
+    ∙ ap goneWith (rw e at f)
+
+-- a step takes no more than a packet
+step-few : (r : Reader) (memory piece : List ℕ) → stepAll r memory piece .step .taken ≤ heldSize
+unfolding stepAll
+step-few r memory piece = by (withinLimits r memory)
+  where
+    by : (b : Bool) → cond b (seen (stepOf (soupBinTCP deliver) (stateOf r memory) piece)) (unfit r memory) .step .taken ≤ heldSize
+    by true = step-most (soupBinTCP deliver) (stateOf r memory) piece
+    by false = omega arith
+
+pub taken-few : (handle table piece handle′ table′ : List ℕ) (m : Moved) → movedOf m handle′ table′ ≡ movedBy handle table piece → m .taken ≤ heldSize
+unfolding movedBy
+taken-few handle table piece handle′ table′ m e = rw (ap (λ (g : Gone). g .taken) e) (step-few (readerIn handle) table piece)
+
+-- ---- a step
+
+module _ (handle table piece event : List ℕ) where
+  pub step-event : (length event ≡ recordSize → ⊥) → hostStepped 2068 handle table event ≡ stepHost handle table piece event
+  unfolding stepHost told
+  step-event d = rw (ne-eqb (length event) recordSize d)
+
+  pub step-no-handle : {b : Bool} → length event ≡ recordSize → b ≡ isHandle handle → not b ≡ true → hostStepped 2068 handle table event ≡ stepHost handle table piece event
+  unfolding stepHost told
+  step-no-handle {b} l e f = rw (eq-eqb (length event) recordSize l, not-call b (isHandle handle) e f)
+
+  pub step-goes : {b : Bool} {n : ℕ} (handle′ table′ event′ : List ℕ) (m : Moved) → length event ≡ recordSize → b ≡ isHandle handle → not b ≡ false
+      → movedOf m handle′ table′ ≡ movedBy handle table piece → answered n event′ ≡ told (answerOf (m .texts) (m .answer)) event
+      → hostStepped (n + m .taken * 65_536) handle′ table′ event′ ≡ stepHost handle table piece event
+  unfolding stepHost
+  step-goes {b} handle′ table′ event′ m l e f g i =
+      rw (eq-eqb (length event) recordSize l, not-not-call b (isHandle handle) e f)
+      (ap (λ (a : Answered). hostStepped (a .number + m .taken * 65_536) handle′ table′ (a .memory)) i ∙ ap (λ (x : Gone). steppedAs x event) g)
+
+-- ---- saving
+
+module _ (handle table out : List ℕ) {b : Bool} (e : b ≡ isHandle handle) where
+  pub save-no-handle : not b ≡ true → answered 20 out ≡ saveHost handle table out
+  unfolding saveHost
+  save-no-handle f = rw (not-call b (isHandle handle) e f)
+
+  pub save-goes : {n : ℕ} (r : Reader) (s : Saved) (after : List ℕ) → not b ≡ false → r ≡ readerIn handle → Saves r table out s after → n ≡ savedNumber s
+      → answered n after ≡ saveHost handle table out
+  unfolding saveHost
+  save-goes r s after f g h i = rw (not-not-call b (isHandle handle) e f, i) (ap savedAs (rw g at h))
+
+-- ---- a line
+
+module _ (line out : List ℕ) where
+  pub line-short : length out < length line → answered 25 out ≡ lineTo line out
+  unfolding lineTo
+  line-short h = rw (lt-leb (length line) (length out) h)
+
+  pub line-fits : (after : List ℕ) → length line ≤ length out → after ≡ overlay out 0 line → answered (length line * 256) after ≡ lineTo line out
+  unfolding lineTo
+  line-fits after h e = rw (le-leb (length line) (length out) h, e)
+
+module _ (t : Text) (out : List ℕ) (most : t .size ≤ 80) (long : length (t .text) ≡ 80) where
+  text-length : length (textOf t) ≡ t .size
+  text-length = length-take-le (t .size) (t .text) (omega (arith, long))
+
+  pub text-short : length out < t .size → answered 25 out ≡ lineTo (textOf t) out
+  text-short h = line-short (textOf t) out (omega (arith, text-length))
+
+  pub text-fits : (after : List ℕ) → t .size ≤ length out → after ≡ overlay out 0 (part (t .text) 0 (t .size)) → answered (t .size * 256) after ≡ lineTo (textOf t) out
+  unfolding part
+  text-fits after h e = ap (λ (n : ℕ). answered (n * 256) after) (sym text-length) ∙ line-fits (textOf t) out after (omega (arith, text-length)) e
+
+-- a line stands at the front of its text
+text-line : (ys : List ℕ) → textOf (lineWith ys) ≡ ys
+unfolding overlay
+text-line ys = take-at ys (drop (0 + length ys) (replicate 80 0)) (length ys) refl
+
+module _ (handle table : List ℕ) (k : ℕ) (out : List ℕ) {b : Bool} (e : b ≡ isHandle handle) where
+  pub line-no-handle : not b ≡ true → answered 20 out ≡ lineHost handle table k out
+  unfolding lineHost
+  line-no-handle f = rw (not-call b (isHandle handle) e f)
+
+  module _ (f : not b ≡ false) (h : Head) (g : h ≡ headOf handle) {w : Bool} (i : w ≡ withinLimits (readerWith h (part handle headSize heldSize)) table) where
+    pub line-unfit : not w ≡ true → answered 20 out ≡ lineHost handle table k out
+    unfolding lineHost
+    line-unfit j = rw (not-not-call b (isHandle handle) e f, not-call w (withinLimits (readerIn handle) table) (rw g at i) j)
+
+    pub line-goes : {n : ℕ} (x : Ending) (t : Text) (after : List ℕ) → not w ≡ false → x ≡ endingOf h → t ≡ lineWith (lineOf k (h .line .next) (h .board .rows) table x)
+        → answered n after ≡ lineTo (textOf t) out → answered n after ≡ lineHost handle table k out
+    unfolding lineHost
+    line-goes x t after j l m o =
+        rw (not-not-call b (isHandle handle) e f, not-not-call w (withinLimits (readerIn handle) table) (rw g at i) j)
+        (o ∙ ap (λ (y : Text). lineTo (textOf y) out) m
+        ∙ ap (λ (ys : List ℕ). lineTo ys out) (text-line (lineOf k (h .line .next) (h .board .rows) table x))
+        ∙ ap (λ (y : Ending). lineTo (lineOf k (h .line .next) (h .board .rows) table y) out) l
+        ∙ ap (λ (y : Head). lineTo (lineOf k (y .line .next) (y .board .rows) table (endingOf y)) out) g)
+
+-- ---- how a listing ends
+
+module _ (h : Head) where
+  pub ends-refused : (h .refusal ≡ 0 → ⊥) → ending.Refused (h .refusal) ≡ endingOf h
+  ends-refused d = rw (ne-eqb (h .refusal) 0 d)
+
+  pub ends-ended : h .refusal ≡ 0 → h .ended ≡ true → ending.Ended ≡ endingOf h
+  ends-ended e f = rw (eq-eqb (h .refusal) 0 e, f)
+
+  pub ends-open : h .refusal ≡ 0 → h .ended ≡ false → ending.RanOut ≡ endingOf h
+  ends-open e f = rw (eq-eqb (h .refusal) 0 e, f)
+
+-- ---- a handle of the right length
+
+pub handle-fits : (handle : List ℕ) {b : Bool} → b ≡ isHandle handle → not b ≡ false → length handle ≡ handleSize
+handle-fits handle {b} e f = handle-length handle (not-not-call b (isHandle handle) e f)
+
+-- the reader in a handle
+pub reader-there : (handle blank held : List ℕ) (h : Head) (r : Reader) → length handle ≡ handleSize → length blank ≡ heldSize → h ≡ headOf handle
+    → held ≡ overlay blank 0 (part handle headSize heldSize) → r ≡ readerWith h held → r ≡ readerIn handle
+reader-there handle blank held h r l m e f g =
+    let n : length (part handle headSize heldSize) ≡ heldSize = part-length handle headSize heldSize (omega (arith, l)) in
+    g ∙ ap (readerWith h) (f ∙ overlay-whole blank (part handle headSize heldSize) (n ∙ sym m)) ∙ ap (λ (x : Head). readerWith x (part handle headSize heldSize)) e
+
+-- ---- the size of an image
+
+size-few : (rows : ℕ) → rows ≤ mostRows → sizeFor rows ≤ 33_280
+unfolding sizeFor blocksFor pagesFor
+size-few rows h = omega arith
+
+module _ (h : Header) (mem out : List ℕ) where
+  room-few : (b : Bool) → h .board .rows ≤ mostRows
+      → SavedFits (cond b (saving (saved.Whole (sizeFor (h .board .rows))) (overlay out 0 (imageOf h mem))) (unsaved ShortOutput out) .answer)
+  room-few true k = size-few (h .board .rows) k
+  room-few false k = tt
+
+  kept-few : (b : Bool) → h .board .rows ≤ mostRows
+      → SavedFits (cond b (cond (leb (sizeFor (h .board .rows)) (length out)) (saving (saved.Whole (sizeFor (h .board .rows))) (overlay out 0 (imageOf h mem))) (unsaved ShortOutput out)) (unsaved BadContents out) .answer)
+  kept-few true k = room-few (leb (sizeFor (h .board .rows)) (length out)) k
+  kept-few false k = tt
+
+  few : images.withinLimits h mem ≡ true → h .board .rows ≤ mostRows
+  unfolding images.withinLimits fits
+  few e = leb-true (h .board .rows) mostRows (both-right (eqb (length mem) tableSize) _ (both-left (fits (h .board) mem) (numberInRange (h .next)) e))
+
+  limits-few : (b : Bool) → images.withinLimits h mem ≡ b
+      → SavedFits (cond b (cond (headerKeeps h && rowsKeep (h .board .rows) mem) (cond (leb (sizeFor (h .board .rows)) (length out)) (saving (saved.Whole (sizeFor (h .board .rows))) (overlay out 0 (imageOf h mem))) (unsaved ShortOutput out)) (unsaved BadContents out)) (unsaved Misfit out) .answer)
+  limits-few true e = kept-few (headerKeeps h && rowsKeep (h .board .rows) mem) (few e)
+  limits-few false e = tt
+
+  saves-few : SavedFits (saveOf h mem out .answer)
+  unfolding saveOf
+  saves-few = limits-few (images.withinLimits h mem) refl
+
+pub saves-fit : (r : Reader) (memory out : List ℕ) (s : Saved) (after : List ℕ) → Saves r memory out s after → SavedFits s
+unfolding saveAll
+saves-fit r memory out s after e = rw (ap (λ (x : Saving). x .answer) e) (by (withinLimits r memory))
+  where
+    by : (b : Bool) → SavedFits (cond b (saveOf (headerOf r) memory out) (unsaved Misfit out) .answer)
+    by true = saves-few (headerOf r) memory out
+    by false = tt
+
+-- ---- what is told
+
+module _ (n : ℕ) (session memory first after : List ℕ) where
+  pub login-told : length memory ≡ recordSize → length session ≡ 10 → first ≡ overlay memory 0 (bytesBe 8 n) → after ≡ overlay first 8 (part session 0 10)
+      → after ≡ overlay memory 0 (loginBytes n session)
+  login-told l m e f =
+      let w : length (bytesBe 8 n) ≡ 8 = digits-length 256 8 n in
+      f ∙ ap (λ (x : List ℕ). overlay x 8 (part session 0 10)) e ∙ ap (overlay (overlay memory 0 (bytesBe 8 n)) 8) (part-whole session 10 m)
+      ∙ (rw w at (overlay-next memory 0 (bytesBe 8 n) session (omega (arith, w, l, m))))
+
+module _ (texts : Texts) (e : code.Event) (memory : List ℕ) where
+  pub event-login : {n : ℕ} {after : List ℕ} → e ≡ event.Login n → after ≡ overlay memory 0 (loginBytes n (texts .session))
+      → answered 256 after ≡ toldEvent (eventOf texts e) memory
+  unfolding toldEvent
+  event-login f g = rw (f, g)
+
+  pub event-rejected : {n : ℕ} {after : List ℕ} → e ≡ event.Rejected n → after ≡ overlay memory 0 (bytesBe 1 n) → answered 512 after ≡ toldEvent (eventOf texts e) memory
+  unfolding toldEvent
+  event-rejected f g = rw (f, g)
+
+  pub event-message : {m : Message} {after : List ℕ} → e ≡ event.Message m → after ≡ recordBytes m (texts .message) → answered 768 after ≡ toldEvent (eventOf texts e) memory
+  unfolding toldEvent
+  event-message f g = rw (f, g)
+
+  pub event-heartbeat : e ≡ event.Heartbeat → answered 1024 memory ≡ toldEvent (eventOf texts e) memory
+  unfolding toldEvent
+  event-heartbeat f = rw f
+
+  pub event-end : e ≡ event.End → answered 1280 memory ≡ toldEvent (eventOf texts e) memory
+  unfolding toldEvent
+  event-end f = rw f
+
+  pub event-skipped : e ≡ event.Skipped → answered 1536 memory ≡ toldEvent (eventOf texts e) memory
+  unfolding toldEvent
+  event-skipped f = rw f
+
+module _ (texts : Texts) (a : StepAnswer) (memory : List ℕ) where
+  pub tells-event : {e : code.Event} {n : ℕ} {after : List ℕ} → a ≡ answer.Event e → answered n after ≡ toldEvent (eventOf texts e) memory
+      → answered n after ≡ told (answerOf texts a) memory
+  unfolding told
+  tells-event f g = rw f g
+
+  pub tells-more : a ≡ answer.More → answered 0 memory ≡ told (answerOf texts a) memory
+  unfolding told
+  tells-more f = rw f
+
+  pub tells-ended : a ≡ answer.Ended → answered 1792 memory ≡ told (answerOf texts a) memory
+  unfolding told
+  tells-ended f = rw f
+
+  pub tells-refused : {r : Refusal} {n : ℕ} → a ≡ answer.Refused r → n ≡ refusalNumber r → answered (2048 + n) memory ≡ told (answerOf texts a) memory
+  unfolding told
+  tells-refused f g = rw (f, g)
+
+pub started-ready : {a : StartAnswer} → a ≡ started.Ready → 0 ≡ startNumber a
+started-ready e = rw e
+
+pub started-refused : {a : StartAnswer} {r : Refusal} {n : ℕ} → a ≡ started.Refused r → n ≡ refusalNumber r → n ≡ startNumber a
+started-refused e f = rw (e, f)
+
+pub saved-whole : {s : Saved} {n : ℕ} → s ≡ saved.Whole n → n * 256 ≡ savedNumber s
+saved-whole e = rw e
+
+pub saved-fits : {s : Saved} {n : ℕ} → s ≡ saved.Whole n → SavedFits s → n ≤ 33_280
+saved-fits e f = rw e at f

@@ -1,0 +1,24 @@
+-- `abi::nelqubat_save` meets its contract.
+-- Assumes nothing.
+use borrow.Author.Needs.{needs}
+use denote.Ref.{now}
+use Rattle.abi.proofs.Ways.{save-no-handle, save-goes, saves-fit, handle-fits}
+use Rattle.abi.proofs.nelqubat_save.Statement.{statement}
+use Rattle.abi.proofs.nelqubat_save.Tie as tie
+
+returns : tie.Need-returns
+returns c = search save-no-handle
+
+reader-in-requires : tie.Need-reader-in-requires
+reader-in-requires c κs = search handle-fits
+
+saved-number-requires : tie.Need-saved-number-requires
+saved-number-requires c κs = search saves-fit
+
+returns-2 : tie.Need-returns-2
+returns-2 c = let s = c .before .before .before .before .before .before .before .before .before .before .before in save-goes (now (s .args .handle)) (now (s .args .table)) (now (s .args .out)) (c .before .before .before .before .before .before .before .is-handle .ensures) (c .before .before .before .before .before .reader-in .result) (c .before .before .before .save .result) _ (search needs) (c .before .before .before .before .before .reader-in .ensures) (c .before .before .before .save .ensures) (c .saved-number .ensures)
+
+pub nelqubat-save-spec : {M : Type 1} → statement M
+nelqubat-save-spec =
+    tie.close
+    (tie.spec (λ c κs. search needs) returns reader-in-requires (λ c κs. search needs) saved-number-requires (λ c. search needs) returns-2)

@@ -1,0 +1,24 @@
+-- `abi::put_line` meets its contract.
+-- Assumes nothing.
+use borrow.Author.Needs.{needs}
+use native.Mathlib.Omega.{arith}
+use denote.Ref.{now}
+use mathlib.Core.Path.{_≡_}
+use lib.ListN.{length}
+use Rattle.abi.proofs.Ways.{text-short, text-fits}
+use Rattle.abi.proofs.put_line.Statement.{statement}
+use Rattle.abi.proofs.put_line.Tie as tie
+
+returns : tie.Need-returns
+returns c = search (text-short, needs)
+
+copy-requires : tie.Need-copy-requires
+copy-requires c κs = let s = c .before .before .before .before .before in let long : length (s .args .text .text) ≡ 80 = search needs in (omega (arith, s .pre, long), search needs)
+
+returns-2 : tie.Need-returns-2
+returns-2 c = let s = c .before .before .before .before .before .before .before .before in text-fits (s .args .text) (now (s .args .out)) (s .pre) (search needs) _ (search needs) (c .before .before .copy .ensures)
+
+pub put-line-spec : {M : Type 1} → statement M
+put-line-spec =
+    tie.close
+    (tie.spec returns (λ c. search needs) copy-requires (λ c. search needs) (λ c. search needs) (λ c. search needs) returns-2)

@@ -1,0 +1,18 @@
+-- `abi::reader_in` meets its contract.
+-- Assumes nothing.
+use borrow.Author.Needs.{needs}
+use Prim.Native.Nat.{ℕ}
+use lib.ListN.{length-replicate}
+use denote.Ref.{now}
+use Rattle.packet.specs.Frame.{heldSize}
+use Rattle.abi.proofs.Ways.{reader-there}
+use Rattle.abi.proofs.reader_in.Statement.{statement}
+use Rattle.abi.proofs.reader_in.Tie as tie
+
+returns : tie.Need-returns
+returns c = let s = c .before .before .before .before .before .before in reader-there (now (s .args .handle)) _ _ (c .before .read-head .result) (c .with .result) (s .pre) (length-replicate {A = ℕ} heldSize 0) (c .before .read-head .ensures) (c .before .before .before .copy .ensures) (c .with .ensures)
+
+pub reader-in-spec : {M : Type 1} → statement M
+reader-in-spec =
+    tie.close
+    (tie.spec (λ c. search needs) (λ c κs. search needs) (λ c κs. search needs) (λ c κs. search needs) returns)

@@ -1,0 +1,21 @@
+-- `abi::saved_number` meets its contract.
+-- Assumes nothing.
+use borrow.Author.Needs.{needs}
+use native.Mathlib.Omega.{arith}
+use Rattle.abi.proofs.Ways.{saved-fits, saved-whole}
+use Rattle.abi.proofs.saved_number.Statement.{statement}
+use Rattle.abi.proofs.saved_number.Tie as tie
+
+cast-result : tie.Need-cast-result
+cast-result c = omega (arith, saved-fits (c .before .saved .given .1) (c .before .before .before .pre))
+
+mul-result : tie.Need-mul-result
+mul-result c = omega (arith, saved-fits (c .before .saved .given .1) (c .before .before .before .pre))
+
+returns : tie.Need-returns
+returns c = search saved-whole
+
+pub saved-number-spec : {M : Type 1} → statement M
+saved-number-spec =
+    tie.close
+    (tie.spec (λ c. search needs) cast-result mul-result (λ c. search needs) (λ c κs. search needs) (λ c. search needs) returns (λ c. search needs))

@@ -1,0 +1,222 @@
+// The calls for C: numbers and lent bytes only. Each answers a number whose low byte is the refusal, 0 for none.
+use handle::HANDLE_SIZE;
+use handle::HEAD_SIZE;
+use handle::Head;
+use image::Saved;
+use listing::Ending;
+use listing::Text;
+use packet::HELD_SIZE;
+use reader::Moved;
+use reader::Reader;
+use reader::StartAnswer;
+use record::RECORD_SIZE;
+ghost use mathlib.Core.Path.{_≡_};
+ghost use Prim.Native.Nat.{_≤_};
+ghost use lib.ListN.{length};
+ghost use Rattle.table.specs.Memory.{tableSize};
+ghost use Rattle.handle.specs.Handle.{handleSize};
+ghost use Rattle.record.specs.Places.{recordSize};
+ghost use Rattle.record.specs.Record.{answered, readAnswer, writeAnswer};
+ghost use Rattle.abi.specs.Host.{left, readerIn, handleBytes, noHeld, verdictNumber, hostStepped, movedOf, movedBy, stepHost, startHost, restoreHost, savedNumber, SavedFits, saveHost, endingOf, lineTo, textOf, lineHost};
+
+mod told;
+
+// How many bytes a handle has.
+#[no_mangle]
+pub extern "C" fn nelqubat_handle_size() -> usize
+    ensures { λ r. ⌜ r ≡ handleSize ⌝ }
+{
+    HANDLE_SIZE
+}
+
+// How many bytes table memory has.
+#[no_mangle]
+pub extern "C" fn nelqubat_table_size() -> usize
+    ensures { λ r. ⌜ r ≡ tableSize ⌝ }
+{
+    table::TABLE_SIZE
+}
+
+// How many bytes a message's record and event memory have.
+#[no_mangle]
+pub extern "C" fn nelqubat_record_size() -> usize
+    ensures { λ r. ⌜ r ≡ recordSize ⌝ }
+{
+    RECORD_SIZE
+}
+
+// A head that holds nothing is laid over a handle, and its places of held bytes are cleared.
+fn put_unheld(h: Head, handle: &mut [u8])
+    requires { ⌜ length (now handle) ≡ handleSize ⌝ }
+    ensures { λ _. ⌜ now (handle .exit) ≡ handleBytes h noHeld ⌝ }
+{
+    field::fill(handle, HEAD_SIZE, HELD_SIZE, 0);
+    handle::put_head(h, handle);
+}
+
+// Makes a handle fresh and fills the table with zeros.
+#[no_mangle]
+pub extern "C" fn nelqubat_start(handle: &mut [u8], table: &mut [u8]) -> u32
+    ensures { λ r. ⌜ left r (now (handle .exit)) (now (table .exit)) ≡ startHost (now (handle .entry)) (now (table .entry)) ⌝ }
+{
+    if handle.len() != HANDLE_SIZE {
+        return 20;
+    }
+    let started = Reader::start(table);
+    let reader = started.reader;
+    let answer = started.answer;
+    put_unheld(reader.head(), handle);
+    match answer {
+        StartAnswer::Ready => 0,
+        StartAnswer::Refused(r) => reader::refusals::number(r) as u32,
+    }
+}
+
+// Steps a handle where it lies.
+fn moved(handle: &mut [u8], table: &mut [u8], piece: &[u8]) -> Moved
+    requires { ⌜ length (now handle) ≡ handleSize ⌝ }
+    ensures { λ m. ⌜ movedOf m (now (handle .exit)) (now (table .exit)) ≡ movedBy (now (handle .entry)) (now (table .entry)) (now (piece .entry)) ⌝ }
+{
+    let head = handle::read_head(handle);
+    let m = reader::step(head, &mut handle[HEAD_SIZE..HANDLE_SIZE], piece, table);
+    let after = m.head;
+    handle::put_head(after, handle);
+    m
+}
+
+// Takes at most one packet of the piece. The second byte of the answer is its kind, the upper half the count of bytes taken.
+#[no_mangle]
+pub extern "C" fn nelqubat_step(
+    handle: &mut [u8],
+    table: &mut [u8],
+    piece: &[u8],
+    event: &mut [u8],
+) -> u32
+    ensures { λ r. ⌜ hostStepped r (now (handle .exit)) (now (table .exit)) (now (event .exit)) ≡ stepHost (now (handle .entry)) (now (table .entry)) (now (piece .entry)) (now (event .entry)) ⌝ }
+{
+    if event.len() != RECORD_SIZE {
+        return told::UNFIT;
+    }
+    if !handle::is_handle(handle) {
+        return told::UNFIT;
+    }
+    let m = moved(handle, table, piece);
+    let answer = m.answer;
+    let texts = m.texts;
+    told::answer(answer, texts, event) + m.taken as u32 * 65536
+}
+
+// The reader that a handle is.
+fn reader_in(handle: &[u8]) -> Reader
+    requires { ⌜ length (now handle) ≡ handleSize ⌝ }
+    ensures { λ r. ⌜ r ≡ readerIn (now (handle .entry)) ⌝ }
+{
+    let mut held = [0u8; HELD_SIZE];
+    field::copy(handle, HEAD_SIZE, HELD_SIZE, &mut held, 0);
+    Reader::with(handle::read_head(handle), held)
+}
+
+// What saving said, as a number: 256 times the count of bytes, or the refusal.
+fn saved_number(saved: Saved) -> u32
+    requires { ⌜ SavedFits saved ⌝ }
+    ensures { λ r. ⌜ r ≡ savedNumber saved ⌝ }
+{
+    match saved {
+        Saved::Whole(n) => n as u32 * 256,
+        Saved::Unsaved(r) => image::refusal_number(r) as u32,
+    }
+}
+
+// The image of the table to the front of `out`.
+#[no_mangle]
+pub extern "C" fn nelqubat_save(handle: &[u8], table: &[u8], out: &mut [u8]) -> u32
+    ensures { λ r. ⌜ answered r (now (out .exit)) ≡ saveHost (now (handle .entry)) (now (table .entry)) (now (out .entry)) ⌝ }
+{
+    if !handle::is_handle(handle) {
+        return 20;
+    }
+    saved_number(reader_in(handle).save(table, out))
+}
+
+fn verdict_number(verdict: image::Verdict) -> u32
+    ensures { λ r. ⌜ r ≡ verdictNumber verdict ⌝ }
+{
+    match verdict {
+        image::Verdict::Accepted => 0,
+        image::Verdict::Refused(r) => image::refusal_number(r) as u32,
+    }
+}
+
+// The handle and the table that an image holds.
+#[no_mangle]
+pub extern "C" fn nelqubat_restore(handle: &mut [u8], table: &mut [u8], saved: &[u8]) -> u32
+    ensures { λ r. ⌜ left r (now (handle .exit)) (now (table .exit)) ≡ restoreHost (now (handle .entry)) (now (table .entry)) (now (saved .entry)) ⌝ }
+{
+    if handle.len() != HANDLE_SIZE {
+        return 20;
+    }
+    let restored = Reader::restore(saved, table);
+    let reader = restored.reader;
+    let verdict = restored.verdict;
+    put_unheld(reader.head(), handle);
+    verdict_number(verdict)
+}
+
+// A message's bytes read to its record.
+#[no_mangle]
+pub extern "C" fn nelqubat_read(bytes: &[u8], memory: &mut [u8]) -> u32
+    ensures { λ r. ⌜ answered r (now (memory .exit)) ≡ readAnswer (now (bytes .entry)) (now (memory .entry)) ⌝ }
+{
+    record::read(bytes, memory)
+}
+
+// A record written as its message's bytes.
+#[no_mangle]
+pub extern "C" fn nelqubat_write(memory: &[u8], out: &mut [u8]) -> u32
+    ensures { λ r. ⌜ answered r (now (out .exit)) ≡ writeAnswer (now (memory .entry)) (now (out .entry)) ⌝ }
+{
+    record::write(memory, out)
+}
+
+// How a listing of the handle ends.
+fn ending(h: Head) -> Ending
+    ensures { λ r. ⌜ r ≡ endingOf h ⌝ }
+{
+    if h.refusal != 0 {
+        return Ending::Refused(h.refusal);
+    }
+    if h.ended {
+        return Ending::Ended;
+    }
+    Ending::RanOut
+}
+
+// A line of text to the front of `out`, or 25.
+fn put_line(text: Text, out: &mut [u8]) -> u32
+    requires { ⌜ text .size ≤ 80 ⌝ }
+    ensures { λ r. ⌜ answered r (now (out .exit)) ≡ lineTo (textOf text) (now (out .entry)) ⌝ }
+{
+    let size = text.size;
+    if out.len() < size {
+        return 25;
+    }
+    let bytes = text.text;
+    field::copy(&bytes, 0, size, out, 0);
+    size as u32 * 256
+}
+
+// Line k of the listing to the front of `out`; past the last line there is nothing to write.
+#[no_mangle]
+pub extern "C" fn nelqubat_line(handle: &[u8], table: &[u8], k: usize, out: &mut [u8]) -> u32
+    ensures { λ r. ⌜ answered r (now (out .exit)) ≡ lineHost (now (handle .entry)) (now (table .entry)) k (now (out .entry)) ⌝ }
+{
+    if !handle::is_handle(handle) {
+        return 20;
+    }
+    let head = handle::read_head(handle);
+    if !reader::within_limits(head, &handle[HEAD_SIZE..HANDLE_SIZE], table) {
+        return 20;
+    }
+    let text = listing::line(k, head.line.next, head.board.rows, table, ending(head));
+    put_line(text, out)
+}
