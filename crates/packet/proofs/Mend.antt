@@ -12,11 +12,11 @@ use lib.ListN.{length, take, drop, getD}
 use lib.Seq.{take-all, take-length, length-take-le}
 use Rattle.field.specs.Bytes.{part, overlay}
 use Rattle.field.proofs.Parts.{take-overlay-end}
-use Rattle.packet.specs.Frame.{heldSize, roomFor, Framed, short, badLength, packet, frame}
+use Rattle.packet.specs.Frame.{heldSize, roomFor, Framed, short, badLength, packet, frame, frontOf}
 use Rattle.packet.specs.Refusals.{faultNumber}
-use Rattle.packet.specs.Stream.{Verdict, refuse, live, More, stepJudged, stepOf}
+use Rattle.packet.specs.Stream.{Verdict, accept, finish, refuse, live, More, Stepped, stepJudged, stepOf}
 use Rattle.packet.specs.declared.Fault.the-variants.{BadLength}
-use Rattle.packet.proofs.Frame.{short-fits, BadAt, WholeAt}
+use Rattle.packet.proofs.Frame.{short-fits, BadAt, WholeAt, bad-there, whole-there}
 use Rattle.packet.proofs.Seen.{step-short, step-bad, step-whole, ends, seen-length, straight-bad, straight-whole}
 
 -- ---- the room behind what is held
@@ -158,3 +158,58 @@ pub lies-joined : (held piece all : List ℕ) → length held ≡ heldSize → f
     → take (length piece) all ≡ piece
 lies-joined held piece all l w e =
     rw zero-add at (join held 0 piece (length piece) all l (omega (arith, short-fits piece w)) (omega arith) e) ∙ take-length piece
+
+-- ---- a cut packet is the one that lies in the joined bytes, and the bytes that were held are not taken again
+
+abbrev pub fewer : {S E : Type 0} → ℕ → Stepped S E → Stepped S E
+fewer k r = record { state = r .state; taken = r .taken - k; answer = r .answer }
+
+fewer-judged : {S E : Type 0} (n k : ℕ) (v : Verdict S E) → stepJudged (n - k) v ≡ fewer k (stepJudged n v)
+fewer-judged n k (accept e s) = refl
+fewer-judged n k (finish e s) = refl
+fewer-judged n k (refuse r s) = refl
+
+module _ (held : List ℕ) (used : ℕ) (piece : List ℕ) (n : ℕ) (all : List ℕ) (c : Copied held used piece n all)
+    {S E : Type 0} (judge : S → ℕ → List ℕ → Verdict S E) (s : S) where
+  abbrev bytes : List ℕ
+  bytes = take (used + n) all
+
+  pub joined-step : stepOf judge (live s (take used held)) piece ≡ fewer used (stepOf judge (live s []) bytes)
+  joined-step = by (frame bytes) refl
+    where
+      by : (f : Framed) → frame bytes ≡ f → stepOf judge (live s (take used held)) piece ≡ fewer used (stepOf judge (live s []) bytes)
+      by short e =
+          let m : n ≡ length bytes - used = omega (arith, mend-length held used piece n all c e) in
+          mend-short held used piece n all c judge s e
+          ∙ ap (λ (k : ℕ). record { state = live s bytes; taken = k; answer = More }) m
+          ∙ ap (fewer used) (sym (step-short judge s [] bytes e))
+      by (badLength r) e =
+          let b = bad-there bytes refl (ap frontOf e) in
+          mend-bad held used piece n all c judge s b ∙ fewer-judged 2 used (refuse (faultNumber BadLength) s) ∙ ap (fewer used) (sym (straight-bad judge s bytes (b .two) (b .is)))
+      by (packet l body r) e =
+          let w = whole-there bytes refl (ap frontOf e) in
+          let k = length body + 1 in
+          let v = judge s (getD bytes 2 0) (take (k + 2 - 3) (drop 3 bytes)) in
+          mend-whole held used piece n all c judge s k w ∙ fewer-judged (k + 2) used v
+          ∙ ap (fewer used) (sym (straight-whole judge s bytes (k + 2) (getD bytes 2 0) (take (k + 2 - 3) (drop 3 bytes)) (w .there) (w .is)))
+
+  judged-takes : (k : ℕ) (v : Verdict S E) {r : Stepped S E} → r ≡ stepJudged k v → used ≤ k → used ≤ r .taken
+  judged-takes k (accept e t) f h = rw f h
+  judged-takes k (finish e t) f h = rw f h
+  judged-takes k (refuse m t) f h = rw f h
+
+  -- the bytes that were held are among those taken
+  pub joined-past : used ≤ stepOf judge (live s []) bytes .taken
+  joined-past = by (frame bytes) refl
+    where
+      by : (f : Framed) → frame bytes ≡ f → used ≤ stepOf judge (live s []) bytes .taken
+      by short e = rw (step-short judge s [] bytes e) (omega (arith, mend-length held used piece n all c e))
+      by (badLength r) e =
+          let b = bad-there bytes refl (ap frontOf e) in
+          judged-takes 2 (refuse (faultNumber BadLength) s) (straight-bad judge s bytes (b .two) (b .is)) (omega (arith, bad-past held used piece n all c b))
+      by (packet l body r) e =
+          let w = whole-there bytes refl (ap frontOf e) in
+          let k = length body + 1 in
+          judged-takes (k + 2) (judge s (getD bytes 2 0) (take (k + 2 - 3) (drop 3 bytes)))
+          (straight-whole judge s bytes (k + 2) (getD bytes 2 0) (take (k + 2 - 3) (drop 3 bytes)) (w .there) (w .is))
+          (omega (arith, whole-past held used piece n all c k w))

@@ -1,22 +1,32 @@
 -- A call on lent places of held bytes is a call by value that also leaves the places as it was promised.
 -- Assumes nothing.
 use mathlib.Core.Path.{_≡_, refl, sym, ap, _∙_}
-use mathlib.Core.List.{List}
+use mathlib.Core.List.{List, [], _++_, append-assoc}
 use mathlib.Core.Bool.{Bool, true, false, not}
-use Prim.Native.Nat.{ℕ, _+_, _-_}
-use lib.ListN.{length, take, drop, getD}
+use Prim.Native.Nat.{ℕ, _+_, _-_, _≤_}
+use native.Mathlib.Omega.{arith}
+use lib.Dec.{lit≤}
+use lib.ListN.{length, take, drop, getD, length-append}
+use lib.Seq.{length-take-le}
 use Rattle.field.specs.Bytes.{part, overlay}
-use Rattle.packet.specs.Frame.{frame, frontOf, heldSize, roomFor}
+use Rattle.field.proofs.Parts.{part-all}
+use Rattle.packet.specs.Frame.{Framed, short, badLength, packet, frame, frontOf, heldSize, roomFor}
 use Rattle.packet.specs.Session.{soupBinTCP}
 use Rattle.packet.specs.declared.Framing.{Framing}
 use Rattle.packet.specs.declared.Framing.the-variants as front
 use Rattle.packet.specs.Stream as stream
-use Rattle.packet.specs.Stream.{accept, finish, refuse, stepJudged}
+use Rattle.packet.specs.Stream.{accept, finish, refuse, live, stepJudged, stepOf}
+use Rattle.packet.specs.Refusals.{faultNumber}
+use Rattle.packet.specs.declared.Fault.the-variants.{BadLength}
+use Rattle.packet.proofs.Frame.{bad-there, whole-there}
+use Rattle.packet.proofs.Seen as found
+use Rattle.packet.proofs.Seen.{step-short}
+use Rattle.packet.proofs.Mend.{Copied, copied, mend-length, mend-short, mend-bad, mend-whole, fewer, joined-step, joined-past}
 use Rattle.packet.specs.Session.{Session, Event}
 use Rattle.handle.specs.declared.Head.{Head}
 use Rattle.reader.specs.Refusals.{named}
 use Rattle.reader.specs.Deliver.{Table, Said, deliver}
-use Rattle.reader.specs.View.{sessionOf, readerWith, headPart, Seen, seenOf, beside, judgedOf, closedOf, steppedWith, Closing, BadClosing, moreMoved, stillMoved}
+use Rattle.reader.specs.View.{sessionOf, readerWith, headPart, Seen, seenOf, seen, beside, judgedOf, closedOf, steppedWith, Closing, BadClosing, moreMoved, stillMoved, unheldOf, fewerMoved}
 use Rattle.reader.specs.Limits.{withinLimits, Fit}
 use Rattle.reader.specs.Calls.{stepAll, placesBy, placesAfter, Lent, lentOf, lentBy, LiveStepping, LentStepping, Stepping}
 use Rattle.reader.specs.declared.Refusal.{Refusal}
@@ -26,7 +36,7 @@ use Rattle.reader.specs.declared.verdicts.Verdict.{Verdict}
 use Rattle.reader.specs.declared.Moved.{Moved}
 use Rattle.reader.specs.declared.Reader.{Reader}
 use Rattle.reader.proofs.Limits.{step-unfit, step-refused, step-ended, goes-live}
-use Rattle.reader.proofs.Pieces.{straight-short, straight-bad, straight-whole, mended-short, mended-bad, mended-whole}
+use Rattle.reader.proofs.Pieces.{straight-short, straight-bad, straight-whole}
 
 -- ---- the places, by what a call is seen to do
 
@@ -75,29 +85,93 @@ module _ (h : Head) (held piece t : List ℕ) {w : Framing} (m : Moved) (none : 
 
 -- ---- the start of a packet is held
 
+abbrev seenFewer : ℕ → Seen → Seen
+seenFewer n x = record { step = fewer n (x .step); used = x .used; texts = x .texts }
+
+-- a handle that holds nothing is fit where one that does is
+pub unheld-fit : (h u : Head) (held : List ℕ) → u ≡ unheldOf h → Fit (readerWith h held) → length held ≡ heldSize
+    → Fit (readerWith u held) × ((u .used ≡ 0) × (length held ≡ heldSize))
+unfolding frame
+unheld-fit h u held e f l = rw e (record { most = f .most; start = lit≤ tt; short = refl }, (refl, l))
+
+-- what is held, and then the piece, laid over the places from the first on
+front-laid : (held : List ℕ) (used : ℕ) (ys : List ℕ) → used + length ys ≤ length held → overlay held 0 (take used held ++ ys) ≡ overlay held used ys
+unfolding overlay
+front-laid held used ys h =
+    let l : length (take used held) ≡ used = length-take-le used held (omega arith) in
+    let m : 0 + length (take used held ++ ys) ≡ used + length ys = omega (arith, length-append (take used held) ys, l) in
+    ap (λ (k : ℕ). (take used held ++ ys) ++ drop k held) m ∙ append-assoc (take used held) ys (drop (used + length ys) held)
+
 module _ (h : Head) (held piece : List ℕ) (n : ℕ) (all : List ℕ) (long : length held ≡ heldSize) (fit : Fit (readerWith h held))
-    (room : n ≡ roomFor (h .used) (length piece)) (joined : all ≡ overlay held (h .used) (part piece 0 n))
-    {w : Framing} (e : w ≡ frontOf (frame (take (h .used + n) all))) (t : List ℕ) (m : Moved) where
-  pub lent-mended-short : (held′ : List ℕ) → w ≡ front.Short → held′ ≡ overlay held (h .used) (part piece 0 n) → m ≡ moreMoved h (h .used + n) n
-      → LiveStepping h held t piece m held′ t
-  lent-mended-short held′ f g i =
-      lent h held piece m held′ t
-      (mended-short (readerWith h held) piece n all long fit room joined e t (steppedWith m held′) f
-      (ap (λ (x : Moved). steppedWith x held′) i ∙ ap (steppedWith (moreMoved h (h .used + n) n)) (g ∙ sym joined)))
-      (more-places h held piece m (h .used + n) n held′ t i g)
+    (room : n ≡ roomFor (h .used) (length piece)) (joined : all ≡ overlay held (h .used) (part piece 0 n)) (t : List ℕ) where
+  abbrev bytes : List ℕ
+  bytes = take (h .used + n) all
 
-  pub lent-mended-bad : w ≡ front.BadLength → BadClosing h (2 - h .used) m → LiveStepping h held t piece m held t
-  lent-mended-bad f g =
-      lent h held piece m held t (mended-bad (readerWith h held) piece n all long fit room joined e t (steppedWith m held) f (g held))
-      (bad-places h held piece m (2 - h .used) t g)
+  behind : Copied held (h .used) piece n all
+  behind = copied held (h .used) piece n all long (fit .start) (fit .short) room joined
 
-  pub lent-mended-whole : (size : ℕ) (v : Verdict) (t′ : List ℕ) → w ≡ front.Whole size
-      → judgedOf v t′
-      ≡ beside (soupBinTCP deliver (sessionOf (h .line) (h .board) t) (getD (take (h .used + n) all) 2 0) (take (size + 2 - 3) (drop 3 (take (h .used + n) all))))
-      → Closing v (size + 2 - h .used) m → LiveStepping h held t piece m held t′
-  lent-mended-whole size v t′ f g i =
-      lent h held piece m held t′ (mended-whole (readerWith h held) piece n all long fit room joined e t (steppedWith m held) size v t′ f g (i held))
-      (closed-places h held piece m v (size + 2 - h .used) t′ i)
+  abbrev session : Session Table
+  session = sessionOf (h .line) (h .board) t
+
+  abbrev lain : stream.Stepped (Session Table) (Event Said)
+  lain = stepOf (soupBinTCP deliver) (live session []) bytes
+
+  abbrev cut : stream.Stepped (Session Table) (Event Said)
+  cut = stepOf (soupBinTCP deliver) (live session (take (h .used) held)) piece
+
+  judged-same : (j k : ℕ) (v : stream.Verdict (Session Table) (Event Said)) → lain ≡ stepJudged j v → cut ≡ stepJudged k v
+      → placesAfter held 0 bytes (seen lain) ≡ placesAfter held (h .used) piece (seen cut)
+  judged-same j k v e f =
+      ap (λ (x : stream.Stepped (Session Table) (Event Said)). placesAfter held 0 bytes (seen x)) e
+      ∙ sym (judged-places j v held _)
+      ∙ judged-places k v held _
+      ∙ ap (λ (x : stream.Stepped (Session Table) (Event Said)). placesAfter held (h .used) piece (seen x)) (sym f)
+
+  places-same : placesAfter held 0 bytes (seen lain) ≡ placesAfter held (h .used) piece (seen cut)
+  unfolding part
+  places-same = by (frame bytes) refl
+    where
+      by : (f : Framed) → frame bytes ≡ f → placesAfter held 0 bytes (seen lain) ≡ placesAfter held (h .used) piece (seen cut)
+      by short e =
+          let l : length bytes ≡ h .used + n = mend-length held (h .used) piece n all behind e in
+          let w : length (take n piece) ≡ n = length-take-le n piece (behind .room .within) in
+          ap (λ (x : stream.Stepped (Session Table) (Event Said)). placesAfter held 0 bytes (seen x)) (step-short (soupBinTCP deliver) session [] bytes e)
+          ∙ ap (overlay held 0) (part-all bytes ∙ behind .joined)
+          ∙ front-laid held (h .used) (take n piece) (omega (arith, w, long, behind .room .fits))
+          ∙ ap (λ (x : stream.Stepped (Session Table) (Event Said)). placesAfter held (h .used) piece (seen x))
+          (sym (mend-short held (h .used) piece n all behind (soupBinTCP deliver) session e))
+      by (badLength r) e =
+          let b = bad-there bytes refl (ap frontOf e) in
+          judged-same 2 (2 - h .used) (refuse (faultNumber BadLength) session) (found.straight-bad (soupBinTCP deliver) session bytes (b .two) (b .is))
+          (mend-bad held (h .used) piece n all behind (soupBinTCP deliver) session b)
+      by (packet l body r) e =
+          let w = whole-there bytes refl (ap frontOf e) in
+          let k = length body + 1 in
+          judged-same (k + 2) (k + 2 - h .used) (soupBinTCP deliver session (getD bytes 2 0) (take (k + 2 - 3) (drop 3 bytes)))
+          (found.straight-whole (soupBinTCP deliver) session bytes (k + 2) (getD bytes 2 0) (take (k + 2 - 3) (drop 3 bytes)) (w .there) (w .is))
+          (mend-whole held (h .used) piece n all behind (soupBinTCP deliver) session k w)
+
+  pub mended-past : (u : Head) (m : Moved) (held′ t′ : List ℕ) → u ≡ unheldOf h → LiveStepping u held t bytes m held′ t′ → h .used ≤ m .taken
+  mended-past u m held′ t′ i e =
+      let f : LiveStepping (unheldOf h) held t bytes m held′ t′ = rw i at e in
+      rw (ap (λ (l : Lent). l .call .step .taken) f) (joined-past held (h .used) piece n all behind (soupBinTCP deliver) session)
+
+  pub lent-mended : (u : Head) (m r : Moved) (held′ t′ : List ℕ) → u ≡ unheldOf h → LiveStepping u held t bytes m held′ t′ → r ≡ fewerMoved (h .used) m
+      → LiveStepping h held t piece r held′ t′
+  lent-mended u m r held′ t′ i g f = ap (λ (x : Moved). lentOf x held′ t′) f ∙ mended
+    where
+      e : LiveStepping (unheldOf h) held t bytes m held′ t′
+      e = rw i at g
+
+      call : seenOf (steppedWith (fewerMoved (h .used) m) held′) t′ ≡ seen cut
+      call =
+          ap (λ (l : Lent). seenFewer (h .used) (l .call)) e
+          ∙ ap seen (sym (joined-step held (h .used) piece n all behind (soupBinTCP deliver) session))
+
+      mended : lentOf (fewerMoved (h .used) m) held′ t′ ≡ lentBy held (h .used) piece (seen cut)
+      mended =
+          lent h held piece (fewerMoved (h .used) m) held′ t′ call
+          (ap (λ (l : Lent). l .held) e ∙ places-same ∙ ap (placesAfter held (h .used) piece) (sym call))
 
 -- ---- the ways through a step
 

@@ -1,12 +1,12 @@
--- The ways through a step of a live reader: the packet lies whole in the piece, or is mended from what is held.
+-- The ways through a step of a live reader that holds nothing.
 -- Assumes nothing.
 use mathlib.Core.Path.{_≡_, sym, ap, _∙_}
 use mathlib.Core.List.{List}
-use Prim.Native.Nat.{ℕ, _+_, _-_, _≤_, _<_}
+use Prim.Native.Nat.{ℕ, _+_, _-_, _≤_}
 use native.Mathlib.Omega.{arith}
 use lib.ListN.{length, take, drop, getD}
 use Rattle.field.specs.Bytes.{part, overlay}
-use Rattle.packet.specs.Frame.{short, frame, frontOf, heldSize, roomFor}
+use Rattle.packet.specs.Frame.{frame, frontOf, heldSize}
 use Rattle.packet.specs.Stream.{refuse, stepJudged, stepOf}
 use Rattle.packet.specs.Refusals.{faultNumber}
 use Rattle.packet.specs.Session.{soupBinTCP}
@@ -14,10 +14,9 @@ use Rattle.packet.specs.declared.Fault.the-variants.{BadLength}
 use Rattle.packet.specs.declared.Framing.{Framing}
 use Rattle.packet.specs.declared.Framing.the-variants as front
 use Rattle.packet.proofs.Frame.{short-fits, short-there, bad-there, whole-there}
-use Rattle.packet.proofs.Mend.{Copied, copied, bad-past, whole-past, mend-length, mend-short, mend-bad, mend-whole, lies-short, lies-bad, lies-whole, lies-joined}
+use Rattle.packet.proofs.Mend.{lies-short, lies-bad, lies-whole, lies-joined}
 use Rattle.reader.specs.Deliver.{deliver}
 use Rattle.reader.specs.View.{sessionOf, beside, judgedOf, liveOf, seenOf, seen, closedOf, moreOf}
-use Rattle.reader.specs.Limits.{Fit}
 use Rattle.reader.specs.declared.Reader.{Reader}
 use Rattle.reader.specs.declared.verdicts.Verdict.{Verdict}
 use Rattle.reader.specs.declared.Stepped.{Stepped}
@@ -52,40 +51,3 @@ module _ (r : Reader) (piece t : List ℕ) {w : Framing} (s : Stepped) (none : r
   straight-whole n v t′ f g h =
       judged-step (n + 2) v s t′ _ h g
       (lies-whole (r .held) (r .used) piece none (soupBinTCP deliver) (sessionOf (r .line) (r .board) t) n (whole-there piece e f))
-
--- ---- the start of a packet is held
-
-module _ (r : Reader) (piece : List ℕ) (n : ℕ) (all : List ℕ) (long : length (r .held) ≡ heldSize) (fit : Fit r)
-    (room : n ≡ roomFor (r .used) (length piece)) (joined : all ≡ overlay (r .held) (r .used) (part piece 0 n)) where
-  behind : Copied (r .held) (r .used) piece n all
-  behind = copied (r .held) (r .used) piece n all long (fit .start) (fit .short) room joined
-
-  module _ {w : Framing} (e : w ≡ frontOf (frame (take (r .used + n) all))) where
-    pub mended-bad-past : w ≡ front.BadLength → r .used < 2
-    mended-bad-past f = bad-past (r .held) (r .used) piece n all behind (bad-there (take (r .used + n) all) e f)
-
-    pub mended-whole-past : {size : ℕ} → w ≡ front.Whole size → r .used < size + 2
-    mended-whole-past {size} f = whole-past (r .held) (r .used) piece n all behind size (whole-there (take (r .used + n) all) e f)
-
-    module _ (t : List ℕ) (s : Stepped) where
-      pub mended-short : w ≡ front.Short → s ≡ moreOf r all (r .used + n) n → seenOf s t ≡ seen (stepOf (soupBinTCP deliver) (liveOf r t) piece)
-      mended-short f g =
-          let there = short-there (take (r .used + n) all) e f in
-          more-step r all (r .used + n) n s t (mend-length (r .held) (r .used) piece n all behind there) g
-          (mend-short (r .held) (r .used) piece n all behind (soupBinTCP deliver) (sessionOf (r .line) (r .board) t) there)
-
-      pub mended-bad : w ≡ front.BadLength
-          → ((u : List ℕ) → seenOf s u ≡ seen (stepJudged (2 - r .used) (refuse (faultNumber BadLength) (sessionOf (r .line) (r .board) u))))
-          → seenOf s t ≡ seen (stepOf (soupBinTCP deliver) (liveOf r t) piece)
-      mended-bad f g =
-          g t
-          ∙ ap seen (sym (mend-bad (r .held) (r .used) piece n all behind (soupBinTCP deliver) (sessionOf (r .line) (r .board) t) (bad-there (take (r .used + n) all) e f)))
-
-      pub mended-whole : (size : ℕ) (v : Verdict) (t′ : List ℕ) → w ≡ front.Whole size
-          → judgedOf v t′
-          ≡ beside (soupBinTCP deliver (sessionOf (r .line) (r .board) t) (getD (take (r .used + n) all) 2 0) (take (size + 2 - 3) (drop 3 (take (r .used + n) all))))
-          → ((u : List ℕ) → seenOf s u ≡ closedOf (size + 2 - r .used) (judgedOf v u))
-          → seenOf s t′ ≡ seen (stepOf (soupBinTCP deliver) (liveOf r t) piece)
-      mended-whole size v t′ f g h =
-          judged-step (size + 2 - r .used) v s t′ _ h g
-          (mend-whole (r .held) (r .used) piece n all behind (soupBinTCP deliver) (sessionOf (r .line) (r .board) t) size (whole-there (take (r .used + n) all) e f))

@@ -1,6 +1,6 @@
 -- The code's values as those of the definitions.
 -- Assumes nothing.
-use Prim.Native.Nat.{ℕ}
+use Prim.Native.Nat.{ℕ, _-_}
 use mathlib.Core.Path.{_≡_}
 use mathlib.Core.Bool.{Bool, false, cond}
 use mathlib.Core.List.{List}
@@ -216,6 +216,14 @@ moreMoved h used taken =
 -- a call that takes nothing and leaves the handle
 abbrev pub stillMoved : Head → StepAnswer → Moved
 stillMoved h a = record { head = h; taken = 0; answer = a; texts = noText }
+
+-- the same handle, with nothing held
+abbrev pub unheldOf : Head → Head
+unheldOf h = record { line = h .line; board = h .board; ended = h .ended; refusal = h .refusal; used = 0 }
+
+-- the same answer, with so many bytes fewer taken
+abbrev pub fewerMoved : ℕ → Moved → Moved
+fewerMoved n m = record { head = m .head; taken = m .taken - n; answer = m .answer; texts = m .texts }
 
 -- a handle that holds nothing and has neither ended nor refused
 abbrev pub readyOf : Line → Board → Reader

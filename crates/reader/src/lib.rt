@@ -9,9 +9,10 @@ use packet::HELD_SIZE;
 use packet::Line;
 use table::Board;
 ghost use mathlib.Core.Path.{_≡_};
+ghost use Prim.Native.Nat.{_≤_};
 ghost use lib.ListN.{length};
 ghost use Rattle.packet.specs.Frame.{heldSize};
-ghost use Rattle.reader.specs.View.{noText, readerWith, headPart, handedOf, moreMoved, stillMoved, readyOf, Closing, BadClosing};
+ghost use Rattle.reader.specs.View.{noText, readerWith, headPart, handedOf, moreMoved, stillMoved, unheldOf, fewerMoved, readyOf, Closing, BadClosing};
 ghost use Rattle.reader.specs.Limits.{holdsUnfinished, withinLimits, Fit};
 ghost use Rattle.reader.specs.Calls.{LiveStepping, LentStepping, Stepping, Starting};
 ghost use Rattle.reader.specs.Saving.{lineOf, Saves, Restores};
@@ -212,30 +213,48 @@ fn straight(head: Head, held: &mut [u8], piece: &[u8], table: &mut [u8]) -> Move
     }
 }
 
-// The start of a packet is held: what there is room for of the piece is joined to a copy of it.
+// The same handle, with nothing held.
+fn unheld(head: Head) -> Head
+    ensures { λ h. ⌜ h ≡ unheldOf head ⌝ }
+{
+    let line = head.line;
+    let board = head.board;
+    Head {
+        line,
+        board,
+        ended: head.ended,
+        refusal: head.refusal,
+        used: 0,
+    }
+}
+
+// The same answer, with so many bytes fewer taken.
+fn fewer(m: Moved, n: usize) -> Moved
+    requires { ⌜ n ≤ m .taken ⌝ }
+    ensures { λ r. ⌜ r ≡ fewerMoved n m ⌝ }
+{
+    let head = m.head;
+    let answer = m.answer;
+    let texts = m.texts;
+    Moved {
+        head,
+        taken: m.taken - n,
+        answer,
+        texts,
+    }
+}
+
+// The start of a packet is held: what there is room for of the piece is joined to a copy of it, and read there.
 fn mended(head: Head, held: &mut [u8], piece: &[u8], table: &mut [u8]) -> Moved
     requires { ⌜ Fit (readerWith head (now held)) × (length (now held) ≡ heldSize) ⌝ }
     ensures { λ m. ⌜ LiveStepping head (now (held .entry)) (now (table .entry)) (now (piece .entry)) m (now (held .exit)) (now (table .exit)) ⌝ }
 {
-    let line = head.line;
-    let board = head.board;
     let used = head.used;
     let n = packet::room(used, piece.len());
     let all = packet::joined(held, used, piece, n);
     let end = used + n;
-    let bytes = &all[..end];
-    match packet::front(bytes) {
-        Framing::Short => {
-            field::copy(piece, 0, n, held, used);
-            more(head, end, n)
-        }
-        Framing::BadLength => bad_length(head, 2 - used),
-        Framing::Whole(size) => {
-            let stop = size + 2;
-            let v = verdicts::act(line, board, bytes[2], &bytes[3..stop], table);
-            closed(v, stop - used)
-        }
-    }
+    let m = straight(unheld(head), held, &all[..end], table);
+    fewer(m, used)
 }
 
 // Are the held bytes those of an unfinished packet?

@@ -3,15 +3,16 @@
 use mathlib.Core.Path.{_≡_, refl, sym, ap, _∙_}
 use mathlib.Core.Bool.{Bool, true, false, _&&_, _||_}
 use mathlib.Core.List.{List, [], _∷_}
-use Prim.Native.Nat.{ℕ, _+_, _≤_}
+use Prim.Native.Nat.{ℕ, _+_, _-_, _≤_, _<_}
 use native.Mathlib.Omega.{arith}
-use borrow.Author.Tests.{leb-true}
+use borrow.Author.Tests.{leb-true, leb-false}
 use lib.Dec.{leb, lit<}
-use lib.ListN.{length}
-use Rattle.field.specs.Bytes.{part, overlay}
+use lib.ListN.{length, getD}
+use lib.Seq.{ext-getD}
+use Rattle.field.specs.Bytes.{part, overlay, Bytes}
 use Rattle.field.proofs.Bools.{both-left, both-right}
-use Rattle.field.proofs.Numbers.{digits-length, value-digits}
-use Rattle.field.proofs.Parts.{part-before, part-after, part-overlay, overlay-length}
+use Rattle.field.proofs.Numbers.{digits-length, value-digits, digits-value, part-bytes}
+use Rattle.field.proofs.Parts.{part-length, part-at, part-before, part-after, part-overlay, overlay-length}
 use Rattle.message.specs.Layout.{Value, num, raw, Rule, binary, decimal, text, bytes, Row, valueIn, bytesIn, values, FitsIn, Fit}
 use Rattle.record.specs.Record.{laid}
 
@@ -138,3 +139,59 @@ values-laid (r ∷ rs) (v ∷ vs) xs n p f l s a =
     let rest : values rs (laid rs vs ys) ≡ vs
     = values-laid rs vs ys n (p .1) (f .1) long (on r rs b xs n w l s) (both-right (outside (r .at) (r .width) rs) (apart rs) a) in
     rw (first, again, rest)
+
+-- ---- put back
+
+own-bytes : (r : Rule) (w : ℕ) (b : List ℕ) → PlainRule r → length b ≡ w → Bytes b → bytesIn r w (valueIn r b) ≡ b
+own-bytes (binary p) w b q e s = rw e at (digits-value 256 (lit< tt) b s)
+own-bytes decimal w b q e s = absurd q
+own-bytes text w b q e s = refl
+own-bytes bytes w b q e s = refl
+
+-- one byte of two lists that have a part in common
+byte-in : (xs ys : List ℕ) (at w i : ℕ) → part xs at w ≡ part ys at w → at ≤ i → i < at + w → getD xs i 0 ≡ getD ys i 0
+byte-in xs ys at w i e h k =
+    let q : at + (i - at) ≡ i = omega arith in
+    sym (rw q at (part-at xs at w (i - at) (omega arith))) ∙ ap (λ (l : List ℕ). getD l (i - at) 0) e ∙ rw q at (part-at ys at w (i - at) (omega arith))
+
+both-true : (a b : Bool) → a ≡ true → b ≡ true → a && b ≡ true
+both-true a b e f = rw (e, f)
+
+inside-is : (n : ℕ) (r : Row) (rs : List Row) → inside n (r ∷ rs) ≡ true → leb (r .at + r .width) n && inside n rs ≡ true
+unfolding inside
+inside-is n r rs f = f
+
+neither : (a b : Bool) → a || b ≡ false → (a ≡ false) × (b ≡ false)
+neither true b e = absurd (let z : _≡_ {A = ℕ} 0 1 = cc in omega arith)
+neither false b e = (refl, e)
+
+-- BYTES THAT AGREE OUTSIDE OF THE PLACES ARE PUT BACK by their own values
+pub laid-own : (rs : List Row) (bs xs : List ℕ) (n : ℕ) → Plain rs → Bytes bs → n ≤ length bs → length xs ≡ length bs → inside n rs ≡ true
+    → ((i : ℕ) → outside i 1 rs ≡ true → getD xs i 0 ≡ getD bs i 0) → laid rs (values rs bs) xs ≡ bs
+unfolding laid values outside
+laid-own [] bs xs n p s l e f h = ext-getD 0 xs bs e (λ i k. h i refl)
+laid-own (r ∷ rs) bs xs n p s l e f h =
+    rw (own-bytes (r .rule) (r .width) b (p .0) w (part-bytes bs (r .at) (r .width) s))
+    (laid-own rs bs (overlay xs (r .at) b) n (p .1) s l (overlay-length xs (r .at) b (here r rs b xs n w long f) ∙ e) (on r rs b xs n w long f)
+    (λ i o. by i o (leb (i + 1) (r .at) || leb (r .at + r .width) i) refl))
+  where
+    b : List ℕ
+    b = part bs (r .at) (r .width)
+
+    room : r .at + r .width ≤ n
+    room = leb-true (r .at + r .width) n (both-left (leb (r .at + r .width) n) (inside n rs) (inside-is n r rs f))
+
+    w : length b ≡ r .width
+    w = part-length bs (r .at) (r .width) (omega (arith, room))
+
+    long : n ≤ length xs
+    long = omega arith
+
+    by : (i : ℕ) → outside i 1 rs ≡ true → (c : Bool) → leb (i + 1) (r .at) || leb (r .at + r .width) i ≡ c → getD (overlay xs (r .at) b) i 0 ≡ getD bs i 0
+    by i o true q =
+        byte-in (overlay xs (r .at) b) xs i 1 i (one-kept r rs b xs n w long f i 1 q) (omega arith) (omega arith)
+        ∙ h i (both-true (leb (i + 1) (r .at) || leb (r .at + r .width) i) (outside i 1 rs) q o)
+    by i o false q =
+        let t = neither (leb (i + 1) (r .at)) (leb (r .at + r .width) i) q in
+        byte-in (overlay xs (r .at) b) bs (r .at) (r .width) i (one-put r rs b xs n w long f) (omega (arith, leb-false (i + 1) (r .at) (t .0)))
+        (omega (arith, leb-false (r .at + r .width) i (t .1)))

@@ -2,20 +2,20 @@
 -- Assumes nothing.
 use mathlib.Core.Path.{_≡_, refl, sym, ap, _∙_}
 use mathlib.Core.Bool.{Bool, true, false, cond}
-use mathlib.Core.List.{List, [], _∷_}
-use Prim.Native.Nat.{ℕ, _*_, _^_, _≤_, _<_}
+use mathlib.Core.List.{List, _∷_}
+use Prim.Native.Nat.{ℕ, zero, suc, _*_, _≤_, _<_}
 use native.Mathlib.Omega.{arith}
 use borrow.Author.Tests.{eq-eqb, le-leb, leb-true}
-use lib.Dec.{eqb, leb, lit<}
+use lib.Dec.{eqb, leb}
 use lib.ListN.{length, getD, drop, replicate, length-replicate}
 use Rattle.field.specs.Bytes.{part, overlay, be, same, Bytes}
 use Rattle.field.proofs.Numbers.{be-one}
 use Rattle.field.proofs.Parts.{part-overlay}
 use Rattle.field.proofs.Same.{same-test}
 use Rattle.field.proofs.Answers.{equal-answers}
-use Rattle.message.specs.Layout.{Value, num, Row, asNumber, values, keepsAll, bytesFor}
+use Rattle.message.specs.Layout.{Value, num, Row, asNumber, values}
 use Rattle.message.specs.Letters.{Letter, letterIn, letterFor, fieldsOf, shortSideCode, shortSideLetter, longSideCode, longSideLetter}
-use Rattle.message.specs.Message.{refusalNumber, writeRefusalNumber, accepted, readOf, bytesOf, keeps, Outcome, outcome, writeOf, Typed, textsWith}
+use Rattle.message.specs.Message.{refusalNumber, writeRefusalNumber, accepted, readOf, bytesOf, keeps, outcome, writeOf, Typed, textsWith}
 use Rattle.message.specs.declared.Side.{Side}
 use Rattle.message.specs.declared.Side.the-variants.{Bid, Ask}
 use Rattle.message.specs.declared.Message.{Message}
@@ -25,20 +25,17 @@ use Rattle.message.specs.declared.Refusal.{Refusal}
 use Rattle.message.specs.declared.Refusal.the-variants.{UnknownLetter, WrongLength, BadField}
 use Rattle.message.specs.declared.Answer.{Answer}
 use Rattle.message.specs.declared.Answer.the-variants as reading
-use Rattle.message.specs.declared.Reading.{Reading}
-use Rattle.message.specs.declared.Written.{Written}
 use Rattle.message.specs.declared.Written.the-variants.{Whole, Unwritten}
 use Rattle.message.specs.declared.WriteRefusal.{WriteRefusal}
 use Rattle.message.specs.declared.WriteRefusal.the-variants.{BrokenRecord, ShortOutput}
 use Rattle.message.proofs.Table.{is-listed-letter}
 use Rattle.message.proofs.Rounds.{bytes-length, read-write, write-read}
 use Rattle.record.specs.Places.{recordSize, letterPlace, placesFor, shortSidePlaces, longSidePlaces, recordLetters, recordLetter, recordLetterFor}
-use Rattle.record.specs.Record.{laid, laidOver, recordBytes, held, noRecord, saidBy, saidOf, confirmed, recordOf, Answered, answered, readTo, readAnswer, writtenAs, writeFrom, writeAnswer, Roomy}
+use Rattle.record.specs.Record.{laid, laidOver, recordBytes, held, saidBy, saidOf, confirmed, recordOf, Answered, answered, readTo, readAnswer, writtenAs, writeFrom, writeAnswer, Roomy}
 use Rattle.record.specs.declared.Taken.{Taken}
 use Rattle.record.specs.declared.Taken.the-variants.{Is, NoRecord}
-use Rattle.record.specs.declared.Held.{Held}
-use Rattle.record.proofs.Laid.{inside, apart, outside, Plain, laid-length, part-kept, fit-wide, values-laid}
-use Rattle.record.proofs.Typed.{Record, is-record, record-roomy, read-typed, roomy, typed}
+use Rattle.record.proofs.Laid.{inside, apart, outside, Plain, laid-length, part-kept, fit-wide, values-laid, laid-own}
+use Rattle.record.proofs.Typed.{Said, is-said, Record, is-record, record-roomy, read-typed, roomy, typed}
 
 -- ---- the places of a message
 
@@ -142,6 +139,27 @@ zero-elsewhere bs m t i n s e o =
     ∙ part-kept (letterPlace ∷ placesFor m) (num (letterFor m .code) ∷ fieldsOf m t) (replicate recordSize 0) recordSize i n
     (fit-wide (letterPlace ∷ placesFor m) (num (letterFor m .code) ∷ fieldsOf m t) (p .plain) (p .byte, f)) (omega (arith, length-replicate {A = ℕ} recordSize 0))
     (p .within) o
+
+getD-zeros : (n i : ℕ) → _≡_ {A = ℕ} (getD (replicate n 0) i 0) 0
+getD-zeros zero i = refl
+getD-zeros (suc n) zero = refl
+getD-zeros (suc n) (suc i) = getD-zeros n i
+
+own-laid : (bs : List ℕ) (m : Message) (t : Texts) → Bytes bs → length bs ≡ recordSize → saidOf bs ≡ held m t
+    → ((i : ℕ) → outside i 1 (letterPlace ∷ placesFor m) ≡ true → getD (replicate recordSize 0) i 0 ≡ getD bs i 0) → recordBytes m t ≡ bs
+unfolding recordBytes laidOver values
+own-laid bs m t s l e z =
+    let p = placed m in
+    let w = is-said bs m t e in
+    let first : letterFor m .code ≡ be (part bs 0 1) = w .letter ∙ sym (be-one bs 0 (omega (arith, l))) in
+    rw (first, w .fields)
+    (laid-own (letterPlace ∷ placesFor m) bs (replicate recordSize 0) recordSize (p .plain) s (omega (arith, l)) (length-replicate {A = ℕ} recordSize 0 ∙ sym l) (p .within) z)
+
+-- THEOREM: and 112 bytes of a listed letter with 0 in every other place are a record
+pub record-exactly : (bs : List ℕ) (m : Message) (t : Texts) → Bytes bs → length bs ≡ recordSize → saidOf bs ≡ held m t
+    → ((i : ℕ) → outside i 1 (letterPlace ∷ placesFor m) ≡ true → getD bs i 0 ≡ 0) → recordOf bs ≡ held m t
+unfolding recordOf confirmed
+record-exactly bs m t s l e z = rw (eq-eqb (length bs) recordSize l, e, same-test (own-laid bs m t s l e (λ i o. getD-zeros recordSize i ∙ sym (z i o))))
 
 -- ---- what an answer that is no refusal tells
 

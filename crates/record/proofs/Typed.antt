@@ -1,7 +1,7 @@
 -- A message that is read, and one that a record holds, has room for each of its values.
 -- Assumes nothing.
 use mathlib.Core.Path.{_≡_, refl, sym, ap, _∙_}
-use mathlib.Core.Bool.{Bool, true, false, cond, _&&_}
+use mathlib.Core.Bool.{Bool, true, false, cond}
 use mathlib.Core.List.{List, [], _∷_}
 use Prim.Native.Nat.{ℕ, _+_, _^_, _≤_, _<_}
 use native.Mathlib.Omega.{arith}
@@ -28,7 +28,7 @@ use Rattle.message.specs.declared.Refusal.{Refusal}
 use Rattle.message.specs.declared.Answer.the-variants as reading
 use Rattle.message.specs.declared.Reading.{Reading}
 use Rattle.message.proofs.Puts.{twenty}
-use Rattle.message.proofs.Table.{found, found-makes}
+use Rattle.message.proofs.Table.{found, code-found, found-makes}
 use Rattle.message.proofs.Verdicts.{Verdict, empty, unknown, long, field, whole, read-verdict}
 use Rattle.record.specs.Places.{recordSize, placesFor, recordLetters}
 use Rattle.record.specs.Record.{recordBytes, held, noRecord, saidBy, saidOf, confirmed, recordOf, Roomy}
@@ -135,6 +135,7 @@ typed (message.EndOfReplay m) t f = (twenty (m .number) (f .0), tt)
 -- a letter makes a message whose fields, at their places in a record, are those that it was made of
 record Makes (l : Letter) (bs : List ℕ) : Type 0 where
   own : placesFor (l .makes (values (l .rows) bs)) ≡ l .rows
+  code : letterFor (l .makes (values (l .rows) bs)) .code ≡ l .code
   fields : fieldsOf (l .makes (values (l .rows) bs)) (l .texts (values (l .rows) bs)) ≡ values (l .rows) bs
   within : inside recordSize (l .rows) ≡ true
   kept : keepsAll (l .rows) (values (l .rows) bs) ≡ true
@@ -150,21 +151,40 @@ none-clash {m = m} e =
     let z : _≡_ {A = ℕ} 0 1 = cc in
     absurd (omega arith)
 
-said-roomy : (bs : List ℕ) → Bytes bs → recordSize ≤ length bs → (m : Message) (t : Texts) → saidOf bs ≡ held m t → Roomy m t
+-- what the bytes say is what stands at the places of their letter
+pub record Said (bs : List ℕ) (m : Message) (t : Texts) : Type 0 where
+  pub letter : letterFor m .code ≡ getD bs 0 0
+  pub fields : fieldsOf m t ≡ values (placesFor m) bs
+  pub within : inside recordSize (placesFor m) ≡ true
+  pub kept : keepsAll (placesFor m) (values (placesFor m) bs) ≡ true
+
+pub is-said : (bs : List ℕ) (m : Message) (t : Texts) → saidOf bs ≡ held m t → Said bs m t
 unfolding saidOf saidBy
-said-roomy bs s h m t = by (eqb (l .size) 0) refl
+is-said bs m t = by (eqb (l .size) 0) refl
   where
     l : Letter
     l = letterIn recordLetters (getD bs 0 0)
 
-    by : (b : Bool) → eqb (l .size) 0 ≡ b → cond b noRecord (held (l .makes (values (l .rows) bs)) (l .texts (values (l .rows) bs))) ≡ held m t → Roomy m t
+    by : (b : Bool) → eqb (l .size) 0 ≡ b → cond b noRecord (held (l .makes (values (l .rows) bs)) (l .texts (values (l .rows) bs))) ≡ held m t → Said bs m t
     by true q e = none-clash e
     by false q e =
-        let w = record-makes (getD bs 0 0) bs (eqb-false (l .size) 0 q) in
+        let some : l .size ≡ 0 → ⊥ = eqb-false (l .size) 0 q in
+        let w = record-makes (getD bs 0 0) bs some in
         let o : Is (l .makes (values (l .rows) bs)) ≡ Is m = ap (λ (x : Held). x .taken) e in
         let p : l .makes (values (l .rows) bs) ≡ m = cc in
         let u : l .texts (values (l .rows) bs) ≡ t = ap (λ (x : Held). x .texts) e in
-        rw (← p, ← u, w .own, w .fields) (values-fit (l .rows) bs recordSize s h (w .within) (w .kept))
+        let places : placesFor m ≡ l .rows = ap placesFor (sym p) ∙ w .own in
+        record {
+          letter = ap (λ (x : Message). letterFor x .code) (sym p) ∙ w .code ∙ code-found recordLetters (getD bs 0 0) some;
+          fields = rw (places, ← p, ← u) (w .fields);
+          within = rw places (w .within);
+          kept = rw places (w .kept);
+        }
+
+said-roomy : (bs : List ℕ) → Bytes bs → recordSize ≤ length bs → (m : Message) (t : Texts) → saidOf bs ≡ held m t → Roomy m t
+said-roomy bs s h m t e =
+    let w = is-said bs m t e in
+    rw (w .fields) (values-fit (placesFor m) bs recordSize s h (w .within) (w .kept))
 
 -- what it is to be a record
 pub record Record (bs : List ℕ) (m : Message) (t : Texts) : Type 0 where

@@ -1,18 +1,19 @@
 -- The ways through the code: what it finds, test by test, is what the definitions say.
 -- Assumes nothing.
-use mathlib.Core.Path.{_≡_, refl, sym, ap, _∙_}
+use mathlib.Core.Path.{_≡_, sym, ap, _∙_}
 use mathlib.Core.Bool.{Bool, true, false, cond}
-use mathlib.Core.List.{List, [], _∷_}
+use mathlib.Core.List.{List}
 use Prim.Native.Nat.{ℕ, _+_, _*_, _≤_}
 use native.Mathlib.Omega.{arith}
 use borrow.Author.Tests.{eq-eqb, ne-eqb}
-use lib.Dec.{eqb, leb}
+use lib.Dec.{leb}
 use lib.ListN.{length, getD, replicate}
-use Rattle.field.specs.Bytes.{part, overlay, same}
+use Rattle.field.specs.Bytes.{part, overlay, be, same}
 use Rattle.field.proofs.Parts.{part-length, part-whole, overlay-whole}
 use Rattle.message.specs.Layout.{values}
-use Rattle.message.specs.Letters.{Letter, letterIn, letterFor, noTexts, textsOf}
+use Rattle.message.specs.Letters.{Letter, letterIn, letterFor, shortNumbersOf, textsOf}
 use Rattle.message.specs.Message.{refusalNumber, writeRefusalNumber, readOf, keeps, bytesOf, Outcome, outcome, writeOf}
+use Rattle.message.specs.declared.ShortNumbers.{ShortNumbers}
 use Rattle.message.specs.declared.Message.{Message}
 use Rattle.message.specs.declared.Message.the-variants as message
 use Rattle.message.specs.declared.Texts.{Texts}
@@ -25,13 +26,20 @@ use Rattle.message.specs.declared.Written.the-variants.{Whole, Unwritten}
 use Rattle.message.specs.declared.WriteRefusal.{WriteRefusal}
 use Rattle.message.specs.declared.WriteRefusal.the-variants.{BrokenRecord, ShortOutput}
 use Rattle.message.proofs.Table.{found}
-use Rattle.record.specs.Places.{recordSize, instrumentPlaces, recordLetters}
+use Rattle.record.specs.Places.{recordSize, shortPlaces, instrumentPlaces, recordLetters}
 use Rattle.record.specs.Record.{recordBytes, held, noRecord, saidBy, saidOf, confirmed, recordOf, answered, readTo, readAnswer, writtenAs, writeFrom, writeAnswer}
 use Rattle.record.specs.declared.Taken.{Taken}
 use Rattle.record.specs.declared.Taken.the-variants.{Is, NoRecord}
 use Rattle.record.specs.declared.Held.{Held}
 
 -- ---- what the fields say
+
+pub short-said : (bs : List ℕ) (at : ℕ) {market price size customer professional : ℕ} → market ≡ be (part bs (at + 2) 2) → price ≡ be (part bs (at + 6) 2)
+    → size ≡ be (part bs (at + 10) 2) → customer ≡ be (part bs (at + 14) 2) → professional ≡ be (part bs (at + 18) 2)
+    → _≡_ {A = ShortNumbers} (record { market = market; price = price; size = size; customer = customer; professional = professional })
+    (shortNumbersOf (values (shortPlaces at) bs))
+unfolding values
+short-said bs at e f g h j i = record { market = e i; price = f i; size = g i; customer = h i; professional = j i }
 
 pub texts-copied : (bs : List ℕ) {a b c : List ℕ} → recordSize ≤ length bs → a ≡ overlay (replicate 8 0) 0 (part bs 75 8) → b ≡ overlay (replicate 13 0) 0 (part bs 83 13)
     → c ≡ overlay (replicate 16 0) 0 (part bs 96 16) → _≡_ {A = Texts} (record { symbol = a; underlying = b; reserved = c }) (textsOf (values instrumentPlaces bs))

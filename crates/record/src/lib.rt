@@ -98,13 +98,13 @@ pub fn read(bytes: &[u8], memory: &mut [u8]) -> u32
 }
 
 // A record written as its message's bytes: 256 times their count, or the number of a refusal, which leaves the output.
-pub fn write(memory: &[u8], out: &mut [u8]) -> u32
-    ensures { λ r. ⌜ answered r (now (out .exit)) ≡ writeAnswer (now (memory .entry)) (now (out .entry)) ⌝ }
+pub fn write(record: &[u8], out: &mut [u8]) -> u32
+    ensures { λ r. ⌜ answered r (now (out .exit)) ≡ writeAnswer (now («record» .entry)) (now (out .entry)) ⌝ }
 {
-    if memory.len() != RECORD_SIZE {
+    if record.len() != RECORD_SIZE {
         return 20;
     }
-    let held = take(memory);
+    let held = take(record);
     let t = held.texts;
     let taken = held.taken;
     match taken {

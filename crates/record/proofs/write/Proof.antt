@@ -16,13 +16,13 @@ mul-result : tie.Need-mul-result
 mul-result c = let h : c .before .n .given .0 .0 ≤ 63 = count-most _ _ _ _ (c .before .before .before .before .before .write .ensures) (c .before .n .given .1) in search needs
 
 returns-2 : tie.Need-returns-2
-returns-2 c = search (write-whole, needs)
+returns-2 c = write-whole _ _ _ (c .before .before .before .before .before .before .before .before .before .before .before .before .if1 .left) (c .before .before .before .before .before .before .before .before .before .before .before .take .ensures) _ (c .before .before .before .before .before .before .before .before .taken .given .1) (c .before .before .before .before .before .write .ensures) _ (c .before .n .given .1)
 
 returns-3 : tie.Need-returns-3
-returns-3 c = search (write-refused, needs)
+returns-3 c = write-refused _ _ _ (c .before .before .before .before .before .before .before .before .before .before .before .before .before .if1 .left) (c .before .before .before .before .before .before .before .before .before .before .before .before .take .ensures) _ (c .before .before .before .before .before .before .before .before .before .taken .given .1) (c .before .before .before .before .before .before .write .ensures) _ (c .before .before .r .given .1) (c .write-refusal-number .ensures)
 
 returns-4 : tie.Need-returns-4
-returns-4 c = search (write-none, needs)
+returns-4 c = write-none _ _ _ (c .before .before .before .before .if1 .left) (c .before .before .before .take .ensures) (c .enum-told .given .1)
 
 pub write-spec : {M : Type 1} → statement M
 write-spec =

@@ -6,7 +6,12 @@ use Rattle.record.proofs.lay.market.Statement.{statement}
 use Rattle.record.proofs.lay.market.Tie as tie
 
 returns : tie.Need-returns
-returns c = search (market-laid, needs)
+returns c =
+    let s3 = c .before .before in
+    let s2 = s3 .before .before .before .before in
+    let s1 = s2 .before .before .before .before in
+    let s0 = s1 .before .before .before in
+    market-laid (s0 .args .out .now) (s0 .args .i) (s0 .args .t) (s1 .underlying .ensures) (s2 .marks .ensures) (s3 .reserved .ensures)
 
 pub market-spec : {M : Type 1} → statement M
 market-spec =
