@@ -131,16 +131,6 @@ pub write-joins : (m n : ℕ) (xs : List ℕ) (at v : ℕ) {ys zs : List ℕ} �
     → zs ≡ overlay ys (at + m) (bytesBe n (v % 256 ^ n)) → zs ≡ overlay xs at (bytesBe (m + n) v)
 write-joins m n xs at v h a b = cc (write-split xs at m n v (omega arith))
 
--- a byte at a time from the highest on: each is the low byte of what stands above the bytes after it
-pub one-more : (k : ℕ) (xs : List ℕ) (at v d : ℕ) {ys zs : List ℕ} → at + (k + 1) ≤ length xs → ys ≡ overlay xs at (bytesBe k (v / (d * 256)))
-    → zs ≡ overlay ys (at + k) (bytesBe 1 (v / d % 256)) → zs ≡ overlay xs at (bytesBe (k + 1) (v / d))
-one-more k xs at v d h a b = write-joins k 1 xs at (v / d) h (a ∙ ap (λ (n : ℕ). overlay xs at (bytesBe k n)) (sym (div-div-eq-div-mul v d 256))) b
-
--- the lowest byte
-pub and-last : (k : ℕ) (xs : List ℕ) (at v : ℕ) {ys zs : List ℕ} → at + (k + 1) ≤ length xs → ys ≡ overlay xs at (bytesBe k (v / 256))
-    → zs ≡ overlay ys (at + k) (bytesBe 1 (v % 256)) → zs ≡ overlay xs at (bytesBe (k + 1) v)
-and-last k xs at v h a b = write-joins k 1 xs at v h a b
-
 pub write-one : (xs : List ℕ) (at v : ℕ) → at < length xs → v < 256 → set xs at v ≡ overlay xs at (bytesBe 1 v)
 unfolding digits
 write-one xs at v h b = rw (div-one v, mod-eq-of-lt b) (overlay-one xs at v h)

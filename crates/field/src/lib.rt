@@ -62,29 +62,20 @@ pub fn write2(out: &mut [u8], at: usize, v: u16)
     write1(out, at + 1, (v % 256) as u8);
 }
 
-// A byte at a time from the number itself, so that the compiler stores the bytes at once; `write8` too.
 pub fn write4(out: &mut [u8], at: usize, v: u32)
     requires { ⌜ at + 4 ≤ length (now out) ⌝ }
     ensures { λ r. ⌜ now (out .exit) ≡ overlay (now (out .entry)) at (bytesBe 4 v) ⌝ }
 {
-    write1(out, at, (v / 16777216) as u8);
-    write1(out, at + 1, (v / 65536 % 256) as u8);
-    write1(out, at + 2, (v / 256 % 256) as u8);
-    write1(out, at + 3, (v % 256) as u8);
+    write2(out, at, (v / 65536) as u16);
+    write2(out, at + 2, (v % 65536) as u16);
 }
 
 pub fn write8(out: &mut [u8], at: usize, v: u64)
     requires { ⌜ at + 8 ≤ length (now out) ⌝ }
     ensures { λ r. ⌜ now (out .exit) ≡ overlay (now (out .entry)) at (bytesBe 8 v) ⌝ }
 {
-    write1(out, at, (v / 72057594037927936) as u8);
-    write1(out, at + 1, (v / 281474976710656 % 256) as u8);
-    write1(out, at + 2, (v / 1099511627776 % 256) as u8);
-    write1(out, at + 3, (v / 4294967296 % 256) as u8);
-    write1(out, at + 4, (v / 16777216 % 256) as u8);
-    write1(out, at + 5, (v / 65536 % 256) as u8);
-    write1(out, at + 6, (v / 256 % 256) as u8);
-    write1(out, at + 7, (v % 256) as u8);
+    write4(out, at, (v / 4294967296) as u32);
+    write4(out, at + 4, (v % 4294967296) as u32);
 }
 
 // The n bytes of src from `from` on, to dst from `at` on.
