@@ -4,7 +4,7 @@ use mathlib.Core.Path.{_≡_, refl}
 use mathlib.Core.Bool.{true, false}
 use mathlib.Core.List.{[], _∷_}
 use Rattle.field.specs.declared.decimal.Number.the-variants.{Is, Bad}
-use Rattle.field.specs.Bytes.{part, overlay, be, bytesBe, value, digits}
+use Rattle.field.specs.Bytes.{part, overlay, be, bytesBe, value, digits, turned}
 use Rattle.field.specs.Text.{every, leading, isText, beginsWithNonSpace, onlySpacesAfterSpace}
 use Rattle.field.specs.Decimal.{decimal, beginsWithNonZero, numberOf, numberAfterSpaces, numberBeforeSpaces, digitChars, digitCountIn, digitCount, chars, charsThenSpaces}
 
@@ -16,6 +16,11 @@ read-two = refl
 write-two : overlay (9 ∷ 0 ∷ 0 ∷ 9 ∷ []) 1 (bytesBe 2 258) ≡ 9 ∷ 1 ∷ 2 ∷ 9 ∷ []
 unfolding overlay digits
 write-two = refl
+
+-- 01 02 03 04 turned is 04 03 02 01
+turned-four : turned 16909060 ≡ 67305985
+unfolding turned
+turned-four = refl
 
 -- "A B" has a letter after a space, "AB " has not
 space-inside : isText (65 ∷ 32 ∷ 66 ∷ []) ≡ false

@@ -10,7 +10,7 @@ use lib.Dec.{lit<}
 use lib.Pow.{pow-add}
 use lib.ListN.{length, getD, set, take, drop, length-append}
 use lib.Seq.{getD-drop}
-use Rattle.field.specs.Bytes.{part, overlay, value, digits, Digits, be, bytesBe, Bytes}
+use Rattle.field.specs.Bytes.{part, overlay, value, digits, Digits, be, bytesBe, turned, Bytes}
 use Rattle.field.proofs.Parts.{part-length, part-split, part-one, part-none, part-overlay, overlay-own, overlay-one, overlay-next}
 
 -- ---- any base
@@ -114,6 +114,50 @@ pub be-gather : (xs : List ℕ) (at w : ℕ) (ws : List ℕ) → at + w + total 
     → be (part xs at (w + total ws)) ≡ be (part xs at w) * 256 ^ total ws + gather xs at w ws
 be-gather xs at w ws h =
     be-split xs at w (total ws) h ∙ ap (λ (x : ℕ). be (part xs at w) * 256 ^ total ws + x) (gathered xs at w ws h)
+
+-- ---- four bytes in the other order
+
+-- the digit b, between the digits q above it and r below it
+digit : (q b r m : ℕ) → b < 256 → r < m → ((q * 256 + b) * m + r) / m % 256 ≡ b
+digit q b r m h k = ap (λ (x : ℕ). x % 256) (digits-div (q * 256 + b) k) ∙ mul-add-mod-self-right q 256 b ∙ mod-eq-of-lt h
+
+pub turned-sum : (a b c d : ℕ) → a < 256 → b < 256 → c < 256 → d < 256
+    → turned (a + b * 256 + c * 65536 + d * 16777216) ≡ a * 16777216 + b * 65536 + c * 256 + d
+unfolding turned
+turned-sum a b c d ha hb hc hd =
+    by (a + b * 256 + c * 65536 + d * 16777216) (omega arith) (omega arith) (omega arith) (omega arith)
+  where
+    by : (v : ℕ) → v ≡ (d * 65536 + c * 256 + b) * 256 + a → v ≡ ((d * 256 + c) * 256 + b) * 256 + a
+        → v ≡ (d * 256 + c) * 65536 + (b * 256 + a) → v ≡ (0 * 256 + d) * 16777216 + (c * 65536 + b * 256 + a)
+        → v % 256 * 16777216 + v / 256 % 256 * 65536 + v / 65536 % 256 * 256 + v / 16777216 % 256 ≡ a * 16777216 + b * 65536 + c * 256 + d
+    by v i j k l =
+        let e : v % 256 ≡ a = ap (λ (x : ℕ). x % 256) i ∙ mul-add-mod-self-right (d * 65536 + c * 256 + b) 256 a ∙ mod-eq-of-lt ha in
+        let f : v / 256 % 256 ≡ b = ap (λ (x : ℕ). x / 256 % 256) j ∙ digit (d * 256 + c) b a 256 hb ha in
+        let g : v / 65536 % 256 ≡ c = ap (λ (x : ℕ). x / 65536 % 256) k ∙ digit d c (b * 256 + a) 65536 hc (omega arith) in
+        let h : v / 16777216 % 256 ≡ d = ap (λ (x : ℕ). x / 16777216 % 256) l ∙ digit 0 d (c * 65536 + b * 256 + a) 16777216 hd (omega arith) in
+        rw (e, f, g, h)
+
+-- as the code reads them, the lowest first
+pub low-first : (xs : List ℕ) (at : ℕ) {a b c d : ℕ} → at + 4 ≤ length xs → a ≡ be (part xs at 1) → b ≡ be (part xs (at + 1) 1)
+    → c ≡ be (part xs (at + 2) 1) → d ≡ be (part xs (at + 3) 1) → a < 256 → b < 256 → c < 256 → d < 256
+    → turned (a + b * 256 + c * 65536 + d * 16777216) ≡ be (part xs at 4)
+low-first xs at {a} {b} {c} {d} l p q r s ha hb hc hd =
+    turned-sum a b c d ha hb hc hd ∙ omega (arith, be-gather xs at 1 (1 ∷ 1 ∷ 1 ∷ []) (omega arith))
+
+turned-is : (v : ℕ) → turned v ≡ v / 16777216 % 256 + v / 65536 % 256 * 256 + v / 256 % 256 * 65536 + v % 256 * 16777216
+unfolding turned
+turned-is v = omega arith
+
+number-is : (v : ℕ) → v < 2 ^ 32 → v / 16777216 % 256 * 16777216 + v / 65536 % 256 * 65536 + v / 256 % 256 * 256 + v % 256 ≡ v
+unfolding value digits
+number-is v l = omega (arith, value-digits 256 (lit< tt) 4 v l)
+
+-- turned twice, a number is itself
+pub turned-twice : (v : ℕ) → v < 2 ^ 32 → turned (turned v) ≡ v
+turned-twice v l =
+    ap turned (turned-is v)
+    ∙ turned-sum (v / 16777216 % 256) (v / 65536 % 256) (v / 256 % 256) (v % 256) (omega arith) (omega arith) (omega arith) (omega arith)
+    ∙ number-is v l
 
 -- ---- a number written as bytes
 

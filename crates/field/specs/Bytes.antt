@@ -32,6 +32,10 @@ be = value 256
 abbrev pub bytesBe : ℕ → ℕ → List ℕ
 bytesBe = digits 256
 
+-- a number of four bytes, with the bytes in the other order
+unfoldable pub turned : ℕ → ℕ
+turned v = v % 256 * 16777216 + v / 256 % 256 * 65536 + v / 65536 % 256 * 256 + v / 16777216 % 256
+
 -- every element is a digit of the base (past the end, 0 is read)
 abbrev pub Digits : ℕ → List ℕ → Type 0
 Digits base xs = (i : ℕ) → getD xs i 0 < base

@@ -2,7 +2,7 @@
 ghost use mathlib.Core.Path.{_≡_};
 ghost use Prim.Native.Nat.{_+_, _≤_, _<_, _^_};
 ghost use lib.ListN.{length, replicate};
-ghost use Rattle.field.specs.Bytes.{part, overlay, be, bytesBe, same};
+ghost use Rattle.field.specs.Bytes.{part, overlay, be, bytesBe, turned, same};
 
 pub mod decimal;
 pub mod limits;
@@ -38,6 +38,24 @@ pub fn read4(s: &[u8], at: usize) -> u32
     ensures { λ r. ⌜ r ≡ be (part (now (s .entry)) at 4) ⌝ }
 {
     wide4(s, at) as u32
+}
+
+// Four bytes as they lie, the lowest first: turned, they are what `read4` reads. They compile to one load.
+pub fn read4_low_first(s: &[u8], at: usize) -> u32
+    requires { ⌜ at + 4 ≤ length (now s) ⌝ }
+    ensures { λ r. ⌜ turned r ≡ be (part (now (s .entry)) at 4) ⌝ }
+{
+    read1(s, at) as u32
+        + read1(s, at + 1) as u32 * 256
+        + read1(s, at + 2) as u32 * 65536
+        + read1(s, at + 3) as u32 * 16777216
+}
+
+// The four bytes of a number in the other order.
+pub fn turned(v: u32) -> u32
+    ensures { λ r. ⌜ r ≡ turned v ⌝ }
+{
+    v % 256 * 16777216 + v / 256 % 256 * 65536 + v / 65536 % 256 * 256 + v / 16777216 % 256
 }
 
 pub fn read8(s: &[u8], at: usize) -> u64

@@ -13,6 +13,7 @@ ghost use Rattle.table.specs.Board.{refusalNumber, freshBoard, taken, de
 ghost use Rattle.table.specs.declared.Found.the-variants.{At, Nothing};
 
 mod quotes;
+mod walk;
 
 pub const MOST_ROWS: usize = 256;
 
@@ -102,14 +103,15 @@ pub fn find(table: &[u8], rows: usize, id: u32) -> Found
     requires { ⌜ rows * rowSize ≤ length (now table) ⌝ }
     ensures { λ r. ⌜ r ≡ rowFor rows (now (table .entry)) id ⌝ }
 {
+    let key = field::turned(id);
     let mut k = 0;
-    while k < rows {
-        if field::read4(table, k * row::ROW_SIZE) == id {
-            return Found::At(k);
+    while 8 <= rows - k {
+        match walk::first_of_eight(table, k, key) {
+            Found::At(hit) => return Found::At(hit),
+            Found::Nothing => k += 8,
         }
-        k += 1;
     }
-    Found::Nothing
+    walk::first_from(table, k, rows, key)
 }
 
 // Table memory filled with zeros, and a board with nothing on it.
