@@ -8,7 +8,7 @@ use native.Mathlib.Omega.{arith}
 use lib.Arith.{digits-lt, digits-div, mod-mul}
 use lib.Dec.{lit<}
 use lib.Pow.{pow-add}
-use lib.ListN.{length, getD, set, take, drop, length-append}
+use lib.ListN.{length, getD, set, take, drop, replicate, length-append}
 use lib.Seq.{getD-drop}
 use Rattle.field.specs.Bytes.{part, overlay, value, digits, Digits, be, bytesBe, turned, Bytes}
 use Rattle.field.proofs.Parts.{part-length, part-split, part-one, part-none, part-overlay, overlay-own, overlay-one, overlay-next}
@@ -174,6 +174,11 @@ write-split xs at m n v h =
 pub write-joins : (m n : ℕ) (xs : List ℕ) (at v : ℕ) {ys zs : List ℕ} → at + (m + n) ≤ length xs → ys ≡ overlay xs at (bytesBe m (v / 256 ^ n))
     → zs ≡ overlay ys (at + m) (bytesBe n (v % 256 ^ n)) → zs ≡ overlay xs at (bytesBe (m + n) v)
 write-joins m n xs at v h a b = cc (write-split xs at m n v (omega arith))
+
+-- zero is zeros
+pub write-zero : (xs : List ℕ) (at v : ℕ) {zs : List ℕ} → v ≡ 0 → zs ≡ overlay xs at (replicate 8 0) → zs ≡ overlay xs at (bytesBe 8 v)
+unfolding digits
+write-zero xs at v z e = rw z e
 
 pub write-one : (xs : List ℕ) (at v : ℕ) → at < length xs → v < 256 → set xs at v ≡ overlay xs at (bytesBe 1 v)
 unfolding digits

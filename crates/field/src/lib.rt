@@ -88,10 +88,15 @@ pub fn write4(out: &mut [u8], at: usize, v: u32)
     write2(out, at + 2, (v % 65536) as u16);
 }
 
+// Zero is written by itself: the branch lets the compiler store the eight bytes of any other number at once.
 pub fn write8(out: &mut [u8], at: usize, v: u64)
     requires { ⌜ at + 8 ≤ length (now out) ⌝ }
     ensures { λ r. ⌜ now (out .exit) ≡ overlay (now (out .entry)) at (bytesBe 8 v) ⌝ }
 {
+    if v == 0 {
+        fill(out, at, 8, 0);
+        return;
+    }
     write4(out, at, (v / 4294967296) as u32);
     write4(out, at + 4, (v % 4294967296) as u32);
 }
