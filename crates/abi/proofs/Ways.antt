@@ -7,7 +7,7 @@ use Prim.Native.Nat.{ℕ, _+_, _*_, _≤_, _<_}
 use native.Mathlib.Omega.{arith}
 use borrow.Author.Tests.{eq-eqb, ne-eqb, le-leb, lt-leb, leb-true}
 use lib.Dec.{eqb, leb}
-use lib.ListN.{length, drop, take, replicate}
+use lib.ListN.{length, drop, take, replicate, length-replicate}
 use lib.Seq.{length-take-le, take-at}
 use Rattle.field.specs.Bytes.{part, overlay, bytesBe}
 use Rattle.field.specs.Limits.{numberInRange}
@@ -18,19 +18,19 @@ use Rattle.packet.specs.Stream as stream
 use Rattle.packet.specs.Stream.{State, stepOf}
 use Rattle.packet.specs.Session.{Session, Event, soupBinTCP}
 use Rattle.packet.specs.Frame.{heldSize}
-use Rattle.packet.proofs.Rules.{not-call, not-not-call}
+use Rattle.packet.proofs.Rules.{not-call, not-not-call, never}
 use Rattle.packet.proofs.Step.{step-most}
 use Rattle.handle.specs.Handle.{headSize, handleSize, isHandle, headOf, headBytes}
 use Rattle.handle.specs.declared.Head.{Head}
-use Rattle.handle.proofs.Rounds.{handle-length}
+use Rattle.handle.proofs.Rounds.{HeadFits, handle-length}
 use Rattle.record.specs.Places.{recordSize}
 use Rattle.record.specs.Record.{Answered, answered, recordBytes}
 use Rattle.reader.specs.Deliver.{Table, Said, deliver}
 use Rattle.reader.specs.Refusals.{refusalNumber}
-use Rattle.reader.specs.View.{Seen, readerWith, headPart, stateOf, seenOf, seen, eventOf, answerOf}
+use Rattle.reader.specs.View.{Seen, sessionOf, readerWith, headPart, heldOf, stateAt, stateOf, seenOf, seen, eventOf, answerOf}
 use Rattle.reader.specs.Limits.{withinLimits}
 use Rattle.reader.specs.Calls.{Begun, begunOf, startAll, Starting, startNumber, Lent, lentOf, LentStepping, stepAll, unfit}
-use Rattle.reader.specs.Saving.{Restores, restoreAll, headerOf, Saves, saveAll}
+use Rattle.reader.specs.Saving.{Came, Restores, restoreAll, headerOf, Saves, saveAll}
 use Rattle.reader.specs.declared.Reader.{Reader}
 use Rattle.reader.specs.declared.Moved.{Moved}
 use Rattle.reader.specs.declared.Started.{Started}
@@ -59,8 +59,9 @@ use Rattle.listing.specs.Lines.{lineOf, lineWith}
 use Rattle.listing.specs.declared.Text.{Text}
 use Rattle.listing.specs.declared.Ending.{Ending}
 use Rattle.listing.specs.declared.Ending.the-variants as ending
-use Rattle.abi.specs.Host.{readerIn, handleBytes, noHeld, headIn, left, unheld, startedAs, startHost, verdictNumber, restoredAs, restoreHost, loginBytes, toldEvent, told, Gone, goneTo, movedBy, movedOf, hostStepped, steppedAs, stepHost, savedNumber, savedAs, SavedFits, saveHost, endingOf, lineTo, textOf, lineHost}
+use Rattle.abi.specs.Host.{readerIn, handleBytes, noHeld, headIn, left, unheld, startedAs, startHost, StartsOn, verdictNumber, restoredAs, restoreHost, RestoresOn, loginBytes, toldEvent, told, Gone, goneTo, movedBy, movedOf, Follows, hostStepped, steppedAs, stepHost, savedNumber, savedAs, SavedFits, saveHost, endingOf, lineTo, textOf, lineHost}
 use Rattle.abi.proofs.Heads.{head-in, memory-in, put-over}
+use Rattle.abi.proofs.Rounds.{reader-back}
 
 -- ---- a reader that holds nothing, over a handle
 
@@ -70,9 +71,33 @@ unheld-as r memory handle h n e f =
     ap (λ (x : List ℕ). left n x memory) (f ∙ ap (λ (x : Head). handleBytes x noHeld) (e ∙ sym (head-in r memory)))
     ∙ ap (left n (handleBytes (headIn (stateOf r memory) (r .used)) noHeld)) (sym (memory-in r memory))
 
+-- and it is that reader
+unheld-on : (r : Reader) (memory handle : List ℕ) (h : Head) → h ≡ headPart r → handle ≡ handleBytes h noHeld → HeadFits h → r .used ≡ 0
+    → stateOf (readerIn handle) memory ≡ stateOf r memory
+unheld-on r memory handle h e f fits none =
+    let unused : heldOf (readerWith (headPart r) noHeld) ≡ heldOf r = rw none in
+    ap (λ (x : List ℕ). stateOf (readerIn x) memory) f
+    ∙ ap (λ (x : Reader). stateOf x memory) (reader-back h noHeld fits (length-replicate {A = ℕ} heldSize 0) ∙ ap (λ (x : Head). readerWith x noHeld) e)
+    ∙ ap (λ (held : List ℕ). stateAt (r .refusal) (r .ended) (sessionOf (r .line) (r .board) memory) held) unused
+
 -- ---- starting and restoring
 
 module _ (handle table : List ℕ) where
+  pub start-none : {A : Type 0} → (length handle ≡ handleSize → ⊥) → length handle ≡ handleSize → A
+  start-none d l = absurd (d l)
+
+  pub start-on : (handle′ table′ : List ℕ) (s : Started) (h : Head) → HeadFits h → Starting table s table′ → h ≡ headPart (s .reader) → handle′ ≡ handleBytes h noHeld
+      → StartsOn handle table handle′ table′
+  unfolding startAll
+  start-on handle′ table′ s h fits e f g l =
+      unheld-on (s .reader) table′ handle′ h f g fits (ap (λ (b : Begun). b .used) e) ∙ ap (λ (b : Begun). b .state) e
+
+  pub restore-on : (image handle′ table′ : List ℕ) (r : Restored) (h : Head) → HeadFits h → Restores image table r table′ → h ≡ headPart (r .reader)
+      → handle′ ≡ handleBytes h noHeld → RestoresOn handle table image handle′ table′
+  unfolding restoreAll
+  restore-on image handle′ table′ r h fits e f g l =
+      unheld-on (r .reader) table′ handle′ h f g fits (ap (λ (b : Came). b .used) e) ∙ ap (λ (b : Came). b .state) e
+
   pub start-misfit : (length handle ≡ handleSize → ⊥) → left 20 handle table ≡ startHost handle table
   unfolding startHost
   start-misfit d = rw (ne-eqb (length handle) handleSize d)
@@ -110,6 +135,16 @@ moves handle table piece h m held first handle′ table′ l k ten e f g i =
     ∙ ap (movedOf m (handleBytes (headIn (stateOf r table′) (r .used)) held)) (sym (memory-in r table′))
     ∙ ap goneWith (rw e at f)
 
+pub moves-on : (handle table piece : List ℕ) (h : Head) (m : Moved) (held first handle′ table′ : List ℕ) → length handle ≡ handleSize → length held ≡ heldSize
+    → HeadFits (m .head) → h ≡ headOf handle → LentStepping h (part handle headSize heldSize) table piece m held table′
+    → first ≡ overlay handle headSize held → handle′ ≡ overlay first 0 (headBytes (m .head))
+    → Follows handle table piece handle′ table′
+moves-on handle table piece h m held first handle′ table′ l k fits e f g i =
+    ap (λ (x : List ℕ). stateOf (readerIn x) table′) (put-over (m .head) handle held first handle′ (fits .session) l k g i)
+    ∙ ap (λ (r : Reader). stateOf r table′) (reader-back (m .head) held fits k)
+    ∙ ap (λ (x : Lent). x .call .step .state) f
+    ∙ ap (λ (x : Head). stepAll (readerWith x (part handle headSize heldSize)) table piece .step .state) e
+
 -- a step takes no more than a packet
 step-few : (r : Reader) (memory piece : List ℕ) → stepAll r memory piece .step .taken ≤ heldSize
 unfolding stepAll
@@ -133,6 +168,13 @@ module _ (handle table piece event : List ℕ) where
   pub step-no-handle : {b : Bool} → length event ≡ recordSize → b ≡ isHandle handle → not b ≡ true → hostStepped 2068 handle table event ≡ stepHost handle table piece event
   unfolding stepHost told
   step-no-handle {b} l e f = rw (eq-eqb (length event) recordSize l, not-call b (isHandle handle) e f)
+
+  -- nothing is said of a step that is refused before it begins
+  pub event-none : {A : Type 0} → (length event ≡ recordSize → ⊥) → isHandle handle ≡ true → length event ≡ recordSize → A
+  event-none d i l = absurd (d l)
+
+  pub handle-none : {A : Type 0} {b : Bool} → b ≡ isHandle handle → not b ≡ true → isHandle handle ≡ true → length event ≡ recordSize → A
+  handle-none {b = b} e f i l = absurd (never (sym (not-call b (isHandle handle) e f) ∙ i))
 
   pub step-goes : {b : Bool} {n : ℕ} (handle′ table′ event′ : List ℕ) (m : Moved) → length event ≡ recordSize → b ≡ isHandle handle → not b ≡ false
       → movedOf m handle′ table′ ≡ movedBy handle table piece → answered n event′ ≡ told (answerOf (m .texts) (m .answer)) event

@@ -2,6 +2,7 @@
 -- An answer's low byte is the number of the refusal, 0 for none.
 -- Assumes nothing.
 use Prim.Native.Nat.{ℕ, _+_, _*_, _≤_}
+use mathlib.Core.Path.{_≡_}
 use mathlib.Core.Bool.{Bool, true, false, _&&_, cond}
 use mathlib.Core.List.{List, [], _∷_, _++_}
 use lib.Dec.{eqb, leb}
@@ -26,7 +27,7 @@ use Rattle.listing.specs.declared.Text.{Text}
 use Rattle.record.specs.Places.{recordSize}
 use Rattle.record.specs.Record.{Answered, answered, recordBytes}
 use Rattle.reader.specs.Deliver.{Table, Said}
-use Rattle.reader.specs.View.{Seen, readerWith, answerOf}
+use Rattle.reader.specs.View.{Seen, readerWith, stateOf, answerOf}
 use Rattle.reader.specs.Limits.{withinLimits}
 use Rattle.reader.specs.Calls.{Begun, startAll, stepAll, placesAfter}
 use Rattle.reader.specs.Saving.{Came, saveAll, restoreAll}
@@ -88,6 +89,13 @@ restoredAs c = unheld (verdictNumber (c .verdict)) (c .state) (c .used)
 
 unfoldable pub restoreHost : List ℕ → List ℕ → List ℕ → Left
 restoreHost handle table image = cond (eqb (length handle) handleSize) (restoredAs (restoreAll image table)) (left 20 handle table)
+
+-- the handle that they leave is the reader that they make
+abbrev pub StartsOn : List ℕ → List ℕ → List ℕ → List ℕ → Type 0
+StartsOn handle table handle′ table′ = length handle ≡ handleSize → stateOf (readerIn handle′) table′ ≡ startAll table .state
+
+abbrev pub RestoresOn : List ℕ → List ℕ → List ℕ → List ℕ → List ℕ → Type 0
+RestoresOn handle table image handle′ table′ = length handle ≡ handleSize → stateOf (readerIn handle′) table′ ≡ restoreAll image table .state
 
 -- ---- A STEP
 
@@ -156,6 +164,15 @@ stepHost handle table piece event =
     cond (eqb (length event) recordSize && isHandle handle)
     (steppedAs (movedBy handle table piece) event)
     (hostStepped (told (stream.Refused 20) event .number) handle table event)
+
+-- THE HANDLE GOES ON AS THE READER: what a step leaves of a handle is the reader that the step leaves, so that the calls of a host are
+-- those of the reader
+abbrev pub Follows : List ℕ → List ℕ → List ℕ → List ℕ → List ℕ → Type 0
+Follows handle table piece handle′ table′ = stateOf (readerIn handle′) table′ ≡ stepAll (readerIn handle) table piece .step .state
+
+-- where the bytes are a handle, and event memory has its length
+abbrev pub GoesOn : List ℕ → List ℕ → List ℕ → List ℕ → List ℕ → List ℕ → Type 0
+GoesOn handle table piece event handle′ table′ = isHandle handle ≡ true → length event ≡ recordSize → Follows handle table piece handle′ table′
 
 -- ---- SAVING
 

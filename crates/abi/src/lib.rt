@@ -17,7 +17,7 @@ ghost use Rattle.table.specs.Memory.{tableSize};
 ghost use Rattle.handle.specs.Handle.{handleSize};
 ghost use Rattle.record.specs.Places.{recordSize};
 ghost use Rattle.record.specs.Record.{answered, readAnswer, writeAnswer};
-ghost use Rattle.abi.specs.Host.{left, readerIn, handleBytes, noHeld, verdictNumber, hostStepped, movedOf, movedBy, stepHost, startHost, restoreHost, savedNumber, SavedFits, saveHost, endingOf, lineTo, textOf, lineHost};
+ghost use Rattle.abi.specs.Host.{left, readerIn, handleBytes, noHeld, verdictNumber, hostStepped, movedOf, movedBy, Follows, GoesOn, stepHost, startHost, StartsOn, restoreHost, RestoresOn, savedNumber, SavedFits, saveHost, endingOf, lineTo, textOf, lineHost};
 
 mod told;
 
@@ -58,6 +58,7 @@ fn put_unheld(h: Head, handle: &mut [u8])
 #[no_mangle]
 pub extern "C" fn nelqubat_start(handle: &mut [u8], table: &mut [u8]) -> u32
     ensures { λ r. ⌜ left r (now (handle .exit)) (now (table .exit)) ≡ startHost (now (handle .entry)) (now (table .entry)) ⌝ }
+    ensures { λ _. ⌜ StartsOn (now (handle .entry)) (now (table .entry)) (now (handle .exit)) (now (table .exit)) ⌝ }
 {
     if handle.len() != HANDLE_SIZE {
         return 20;
@@ -76,6 +77,7 @@ pub extern "C" fn nelqubat_start(handle: &mut [u8], table: &mut [u8]) -> u32
 fn moved(handle: &mut [u8], table: &mut [u8], piece: &[u8]) -> Moved
     requires { ⌜ length (now handle) ≡ handleSize ⌝ }
     ensures { λ m. ⌜ movedOf m (now (handle .exit)) (now (table .exit)) ≡ movedBy (now (handle .entry)) (now (table .entry)) (now (piece .entry)) ⌝ }
+    ensures { λ _. ⌜ Follows (now (handle .entry)) (now (table .entry)) (now (piece .entry)) (now (handle .exit)) (now (table .exit)) ⌝ }
 {
     let head = handle::read_head(handle);
     let m = reader::step(head, &mut handle[HEAD_SIZE..HANDLE_SIZE], piece, table);
@@ -93,6 +95,7 @@ pub extern "C" fn nelqubat_step(
     event: &mut [u8],
 ) -> u32
     ensures { λ r. ⌜ hostStepped r (now (handle .exit)) (now (table .exit)) (now (event .exit)) ≡ stepHost (now (handle .entry)) (now (table .entry)) (now (piece .entry)) (now (event .entry)) ⌝ }
+    ensures { λ _. ⌜ GoesOn (now (handle .entry)) (now (table .entry)) (now (piece .entry)) (now (event .entry)) (now (handle .exit)) (now (table .exit)) ⌝ }
 {
     if event.len() != RECORD_SIZE {
         return told::UNFIT;
@@ -151,6 +154,7 @@ fn verdict_number(verdict: image::Verdict) -> u32
 #[no_mangle]
 pub extern "C" fn nelqubat_restore(handle: &mut [u8], table: &mut [u8], saved: &[u8]) -> u32
     ensures { λ r. ⌜ left r (now (handle .exit)) (now (table .exit)) ≡ restoreHost (now (handle .entry)) (now (table .entry)) (now (saved .entry)) ⌝ }
+    ensures { λ _. ⌜ RestoresOn (now (handle .entry)) (now (table .entry)) (now (saved .entry)) (now (handle .exit)) (now (table .exit)) ⌝ }
 {
     if handle.len() != HANDLE_SIZE {
         return 20;

@@ -1,24 +1,37 @@
 -- `abi::moved` meets its contract.
 -- Assumes nothing.
 use borrow.Author.Needs.{needs}
-use mathlib.Core.Path.{_≡_}
-use lib.ListN.{length}
 use lib.Dec.{lit≤}
 use denote.Ref.{now}
 use Rattle.field.specs.Bytes.{part}
 use Rattle.field.proofs.Parts.{part-back}
 use Rattle.handle.specs.Handle.{headSize, handleSize}
-use Rattle.abi.proofs.Ways.{moves}
+use Rattle.handle.proofs.Rounds.{HeadFits}
+use Rattle.abi.proofs.Ways.{moves, moves-on}
 use Rattle.abi.proofs.moved.Statement.{statement}
 use Rattle.abi.proofs.moved.Tie as tie
+
+-- what a step hands back has room in its fields
+fits : (a : tie.After-step) → HeadFits (a .step .result .head)
+fits a =
+    record {
+      session = search (needs, a .step .ok .1 .1 .0 .1 .1 .0);
+      next = search (needs, a .step .ok .1 .1 .0 .1 .1 .0);
+      live = search (needs, a .step .ok .1 .1 .0 .1 .1 .1 .0);
+      rows = search (needs, a .step .ok .1 .1 .0 .1 .1 .1 .0);
+      used = search (needs, a .step .ok .1 .1 .0 .1 .1 .1 .1);
+      refusal = search (needs, a .step .ok .1 .1 .0 .1 .1 .1 .1);
+      event = search (needs, a .step .ok .1 .1 .0 .1 .1 .1 .0);
+    }
 
 returns : tie.Need-returns
 unfolding part
 returns c =
-    let s = c .before .before .before .before .before .before .before .before .before .before .before .before .before .before .before .before .before in
-    let ten : length (c .before .before .before .before .before .before .before .before .before .step .result .head .line .session) ≡ 10 = search (needs, c .before .before .before .before .before .before .before .before .before .step .ok) in
-    moves (now (s .args .handle)) (now (s .args .table)) (now (s .args .piece)) (c .before .before .before .before .before .before .before .before .before .before .before .before .read-head .result) (c .before .before .before .before .before .before .before .before .before .step .result) _ _ _ _ (s .pre) (search needs) ten
-    (c .before .before .before .before .before .before .before .before .before .before .before .before .read-head .ensures) (c .before .before .before .before .before .before .before .before .before .step .ensures) (part-back headSize handleSize _ _ (lit≤ tt) (search needs) (search needs)) (c .before .before .put-head .ensures)
+    let at-put-head = c .before .before in
+    let at-step = at-put-head .before .before .before .before .before .before .before in
+    let at-read-head = at-step .before .before .before in
+    let start = at-read-head .before .before .before .before .before in
+    (moves (now (start .args .handle)) (now (start .args .table)) (now (start .args .piece)) (at-read-head .read-head .result) (at-step .step .result) _ _ _ _ (start .pre) (search needs) (fits at-step .session) (at-read-head .read-head .ensures) (at-step .step .ensures) (part-back headSize handleSize _ _ (lit≤ tt) (search needs) (search needs)) (at-put-head .put-head .ensures), moves-on (now (start .args .handle)) (now (start .args .table)) (now (start .args .piece)) (at-read-head .read-head .result) (at-step .step .result) _ _ _ _ (start .pre) (search needs) (fits at-step) (at-read-head .read-head .ensures) (at-step .step .ensures) (part-back headSize handleSize _ _ (lit≤ tt) (search needs) (search needs)) (at-put-head .put-head .ensures))
 
 pub moved-spec : {M : Type 1} → statement M
 moved-spec =

@@ -15,15 +15,34 @@ read-head-requires : tie.Need-read-head-requires
 read-head-requires c κs = search handle-fits
 
 part-within-limits-end : tie.Need-part-within-limits-end
-part-within-limits-end c = omega (arith, handle-fits _ (c .before .before .is-handle .ensures) (c .before .if1 .left))
+part-within-limits-end c =
+    let at-if1 = c .before in
+    let at-is-handle = at-if1 .before in
+    omega (arith, handle-fits _ (at-is-handle .is-handle .ensures) (at-if1 .if1 .left))
 
 returns-2 : tie.Need-returns-2
 unfolding part
-returns-2 c = let s = c .before .before .before .before .before .before .before .before .before in line-unfit (now (s .args .handle)) (now (s .args .table)) (s .args .k) (now (s .args .out)) (c .before .before .before .before .before .is-handle .ensures) (c .before .before .before .before .if1 .left) (c .before .before .before .read-head .result) (c .before .before .before .read-head .ensures) (c .before .within-limits .ensures) (c .if2 .taken)
+returns-2 c =
+    let at-within-limits = c .before in
+    let at-read-head = at-within-limits .before .before in
+    let at-if1 = at-read-head .before in
+    let at-is-handle = at-if1 .before in
+    let start = at-is-handle .before .before .before .before in
+    line-unfit (now (start .args .handle)) (now (start .args .table)) (start .args .k) (now (start .args .out)) (at-is-handle .is-handle .ensures) (at-if1 .if1 .left) (at-read-head .read-head .result) (at-read-head .read-head .ensures) (at-within-limits .within-limits .ensures) (c .if2 .taken)
 
 returns-3 : tie.Need-returns-3
 unfolding part
-returns-3 c = let s = c .before .before .before .before .before .before .before .before .before .before .before .before .before .before .before in line-goes (now (s .args .handle)) (now (s .args .table)) (s .args .k) (now (s .args .out)) (c .before .before .before .before .before .before .before .before .before .before .before .is-handle .ensures) (c .before .before .before .before .before .before .before .before .before .before .if1 .left) (c .before .before .before .before .before .before .before .before .before .read-head .result) (c .before .before .before .before .before .before .before .before .before .read-head .ensures) (c .before .before .before .before .before .before .before .within-limits .ensures) (c .before .before .before .before .before .ending .result) (c .before .before .before .before .line .result) _ (c .before .before .before .before .before .before .if2 .left) (c .before .before .before .before .before .ending .ensures) (c .before .before .before .before .line .ensures .0) (c .before .before .put-line .ensures)
+returns-3 c =
+    let at-put-line = c .before .before in
+    let at-line = at-put-line .before .before in
+    let at-ending = at-line .before in
+    let at-if2 = at-ending .before in
+    let at-within-limits = at-if2 .before in
+    let at-read-head = at-within-limits .before .before in
+    let at-if1 = at-read-head .before in
+    let at-is-handle = at-if1 .before in
+    let start = at-is-handle .before .before .before .before in
+    line-goes (now (start .args .handle)) (now (start .args .table)) (start .args .k) (now (start .args .out)) (at-is-handle .is-handle .ensures) (at-if1 .if1 .left) (at-read-head .read-head .result) (at-read-head .read-head .ensures) (at-within-limits .within-limits .ensures) (at-ending .ending .result) (at-line .line .result) _ (at-if2 .if2 .left) (at-ending .ending .ensures) (at-line .line .ensures .0) (at-put-line .put-line .ensures)
 
 pub nelqubat-line-spec : {M : Type 1} → statement M
 nelqubat-line-spec =

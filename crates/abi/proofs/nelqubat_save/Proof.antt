@@ -16,7 +16,12 @@ saved-number-requires : tie.Need-saved-number-requires
 saved-number-requires c κs = search saves-fit
 
 returns-2 : tie.Need-returns-2
-returns-2 c = let s = c .before .before .before .before .before .before .before .before .before .before .before in save-goes (now (s .args .handle)) (now (s .args .table)) (now (s .args .out)) (c .before .before .before .before .before .before .before .is-handle .ensures) (c .before .before .before .before .before .reader-in .result) (c .before .before .before .save .result) _ (search needs) (c .before .before .before .before .before .reader-in .ensures) (c .before .before .before .save .ensures) (c .saved-number .ensures)
+returns-2 c =
+    let at-save = c .before .before .before in
+    let at-reader-in = at-save .before .before in
+    let at-is-handle = at-reader-in .before .before in
+    let start = at-is-handle .before .before .before .before in
+    save-goes (now (start .args .handle)) (now (start .args .table)) (now (start .args .out)) (at-is-handle .is-handle .ensures) (at-reader-in .reader-in .result) (at-save .save .result) _ (search needs) (at-reader-in .reader-in .ensures) (at-save .save .ensures) (c .saved-number .ensures)
 
 pub nelqubat-save-spec : {M : Type 1} → statement M
 nelqubat-save-spec =

@@ -13,10 +13,16 @@ returns : tie.Need-returns
 returns c = search (text-short, needs)
 
 copy-requires : tie.Need-copy-requires
-copy-requires c κs = let s = c .before .before .before .before .before in let long : length (s .args .text .text) ≡ 80 = search needs in (omega (arith, s .pre, long), search needs)
+copy-requires c κs =
+    let start = c .before .before .before .before .before in
+    let long : length (start .args .text .text) ≡ 80 = search needs in
+    (omega (arith, start .pre, long), search needs)
 
 returns-2 : tie.Need-returns-2
-returns-2 c = let s = c .before .before .before .before .before .before .before .before in text-fits (s .args .text) (now (s .args .out)) (s .pre) (search needs) _ (search needs) (c .before .before .copy .ensures)
+returns-2 c =
+    let at-copy = c .before .before in
+    let start = at-copy .before .before .before .before .before .before in
+    text-fits (start .args .text) (now (start .args .out)) (start .pre) (search needs) _ (search needs) (at-copy .copy .ensures)
 
 pub put-line-spec : {M : Type 1} → statement M
 put-line-spec =

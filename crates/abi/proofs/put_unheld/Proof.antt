@@ -12,7 +12,12 @@ use Rattle.abi.proofs.put_unheld.Statement.{statement}
 use Rattle.abi.proofs.put_unheld.Tie as tie
 
 returns : tie.Need-returns
-returns c = let s = c .before .before .before .before .before .before .before .before .before in let ten : length (s .args .h .line .session) ≡ 10 = search (needs, s .good .0 .1 .1 .0) in put-over (s .args .h) (now (s .args .handle)) noHeld _ _ ten (s .pre) (length-replicate {A = ℕ} heldSize 0) (c .before .before .before .before .before .before .fill .ensures) (c .before .before .put-head .ensures)
+returns c =
+    let at-put-head = c .before .before in
+    let at-fill = at-put-head .before .before .before .before in
+    let start = at-fill .before .before .before in
+    let ten : length (start .args .h .line .session) ≡ 10 = search (needs, start .good .0 .1 .1 .0) in
+    put-over (start .args .h) (now (start .args .handle)) noHeld _ _ ten (start .pre) (length-replicate {A = ℕ} heldSize 0) (at-fill .fill .ensures) (at-put-head .put-head .ensures)
 
 pub put-unheld-spec : {M : Type 1} → statement M
 put-unheld-spec =

@@ -10,7 +10,11 @@ use Rattle.abi.proofs.reader_in.Statement.{statement}
 use Rattle.abi.proofs.reader_in.Tie as tie
 
 returns : tie.Need-returns
-returns c = let s = c .before .before .before .before .before .before in reader-there (now (s .args .handle)) _ _ (c .before .read-head .result) (c .with .result) (s .pre) (length-replicate {A = ℕ} heldSize 0) (c .before .read-head .ensures) (c .before .before .before .copy .ensures) (c .with .ensures)
+returns c =
+    let at-read-head = c .before in
+    let at-copy = at-read-head .before .before in
+    let start = at-copy .before .before .before in
+    reader-there (now (start .args .handle)) _ _ (at-read-head .read-head .result) (c .with .result) (start .pre) (length-replicate {A = ℕ} heldSize 0) (at-read-head .read-head .ensures) (at-copy .copy .ensures) (c .with .ensures)
 
 pub reader-in-spec : {M : Type 1} → statement M
 reader-in-spec =

@@ -7,10 +7,16 @@ use Rattle.abi.proofs.saved_number.Statement.{statement}
 use Rattle.abi.proofs.saved_number.Tie as tie
 
 cast-result : tie.Need-cast-result
-cast-result c = omega (arith, saved-fits (c .before .saved .given .1) (c .before .before .before .pre))
+cast-result c =
+    let at-saved = c .before in
+    let start = at-saved .before .before in
+    omega (arith, saved-fits (at-saved .saved .given .1) (start .pre))
 
 mul-result : tie.Need-mul-result
-mul-result c = omega (arith, saved-fits (c .before .saved .given .1) (c .before .before .before .pre))
+mul-result c =
+    let at-saved = c .before in
+    let start = at-saved .before .before in
+    omega (arith, saved-fits (at-saved .saved .given .1) (start .pre))
 
 returns : tie.Need-returns
 returns c = search saved-whole

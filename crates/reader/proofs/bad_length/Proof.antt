@@ -1,3 +1,5 @@
+-- `reader::bad_length` meets its contract.
+-- Assumes nothing.
 use borrow.Author.Needs.{needs}
 use Rattle.reader.proofs.Ways.{closed-bad}
 use Rattle.reader.proofs.bad_length.Statement.{statement}

@@ -1,3 +1,5 @@
+-- `reader::closed` meets its contract.
+-- Assumes nothing.
 use borrow.Author.Needs.{needs}
 use Rattle.reader.proofs.Ways.{closed-accepted, closed-finished, closed-refused}
 use Rattle.reader.proofs.closed.Statement.{statement}

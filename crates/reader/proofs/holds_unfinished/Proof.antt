@@ -12,7 +12,9 @@ returns : tie.Need-returns
 returns c = search held-over
 
 slice-aggregate-front : tie.Need-slice-aggregate-front
-slice-aggregate-front c = sym (length-take-le _ _ (omega (arith, c .before .before .before .pre)))
+slice-aggregate-front c =
+    let start = c .before .before .before in
+    sym (length-take-le _ _ (omega (arith, start .pre)))
 
 returns-2 : tie.Need-returns-2
 returns-2 c = search held-short

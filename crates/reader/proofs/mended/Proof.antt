@@ -17,25 +17,50 @@ room-there : (c : tie.After-room) → c .before .before .before .before .args .h
 room-there c = let s = c .before .before .before .before in room-fits (s .args .head .used) (length (now (s .args .piece))) (s .pre .0 .start) (c .room .ensures)
 
 joined-requires : tie.Need-joined-requires
-joined-requires c κs = let s = c .before .before .before .before .before in (s .pre .1, (room-there (c .before), room-within (s .args .head .used) (length (now (s .args .piece))) (s .pre .0 .start) (c .before .room .ensures)))
+joined-requires c κs =
+    let at-room = c .before in
+    let start = at-room .before .before .before .before in
+    (start .pre .1, (room-there (at-room), room-within (start .args .head .used) (length (now (start .args .piece))) (start .pre .0 .start) (at-room .room .ensures)))
 
 add-end : tie.Need-add-end
-add-end c = omega (arith, room-there (c .before .before))
+add-end c =
+    omega (arith, room-there (c .before .before))
 
 array-share-prefix-all : tie.Need-array-share-prefix-all
-array-share-prefix-all c = let long : length (c .before .before .joined .result) ≡ 258 = search needs in omega (arith, room-there (c .before .before .before .before))
+array-share-prefix-all c =
+    let at-joined = c .before .before in
+    let long : length (at-joined .joined .result) ≡ 258 = search needs in
+    omega (arith, room-there (at-joined .before .before))
 
 slice-aggregate-straight : tie.Need-slice-aggregate-straight
-slice-aggregate-straight c = let long : length (c .before .before .before .joined .result) ≡ 258 = search needs in sym (length-take-le _ _ (omega (arith, room-there (c .before .before .before .before .before))))
+slice-aggregate-straight c =
+    let at-joined = c .before .before .before in
+    let long : length (at-joined .joined .result) ≡ 258 = search needs in
+    sym (length-take-le _ _ (omega (arith, room-there (at-joined .before .before))))
 
 straight-requires : tie.Need-straight-requires
-straight-requires c κs = let s = c .before .before .before .before .before .before .before .before .before .before in unheld-fit (s .args .head) (c .before .before .before .unheld .result) (now (s .args .held)) (c .before .before .before .unheld .ensures) (s .pre .0) (s .pre .1)
+straight-requires c κs =
+    let at-unheld = c .before .before .before in
+    let start = at-unheld .before .before .before .before .before .before .before in
+    unheld-fit (start .args .head) (at-unheld .unheld .result) (now (start .args .held)) (at-unheld .unheld .ensures) (start .pre .0) (start .pre .1)
 
 fewer-requires : tie.Need-fewer-requires
-fewer-requires c κs = let s = c .before .before .before .before .before .before .before .before .before .before .before .before .before .before .before in mended-past (s .args .head) (now (s .args .held)) (now (s .args .piece)) (c .before .before .before .before .before .before .before .before .before .before .before .room .result) (c .before .before .before .before .before .before .before .before .before .joined .result) (s .pre .1) (s .pre .0) (c .before .before .before .before .before .before .before .before .before .before .before .room .ensures) (c .before .before .before .before .before .before .before .before .before .joined .ensures) (now (s .args .table)) (c .before .before .before .before .before .before .before .before .unheld .result) (c .before .before .before .before .straight .result) _ _ (c .before .before .before .before .before .before .before .before .unheld .ensures) (c .before .before .before .before .straight .ensures)
+fewer-requires c κs =
+    let at-straight = c .before .before .before .before in
+    let at-unheld = at-straight .before .before .before .before in
+    let at-joined = at-unheld .before in
+    let at-room = at-joined .before .before in
+    let start = at-room .before .before .before .before in
+    mended-past (start .args .head) (now (start .args .held)) (now (start .args .piece)) (at-room .room .result) (at-joined .joined .result) (start .pre .1) (start .pre .0) (at-room .room .ensures) (at-joined .joined .ensures) (now (start .args .table)) (at-unheld .unheld .result) (at-straight .straight .result) _ _ (at-unheld .unheld .ensures) (at-straight .straight .ensures)
 
 returns : tie.Need-returns
-returns c = let s = c .before .before .before .before .before .before .before .before .before .before .before .before .before .before .before .before in lent-mended (s .args .head) (now (s .args .held)) (now (s .args .piece)) (c .before .before .before .before .before .before .before .before .before .before .before .before .room .result) (c .before .before .before .before .before .before .before .before .before .before .joined .result) (s .pre .1) (s .pre .0) (c .before .before .before .before .before .before .before .before .before .before .before .before .room .ensures) (c .before .before .before .before .before .before .before .before .before .before .joined .ensures) (now (s .args .table)) (c .before .before .before .before .before .before .before .before .before .unheld .result) (c .before .before .before .before .before .straight .result) (c .fewer .result) _ _ (c .before .before .before .before .before .before .before .before .before .unheld .ensures) (c .before .before .before .before .before .straight .ensures) (c .fewer .ensures)
+returns c =
+    let at-straight = c .before .before .before .before .before in
+    let at-unheld = at-straight .before .before .before .before in
+    let at-joined = at-unheld .before in
+    let at-room = at-joined .before .before in
+    let start = at-room .before .before .before .before in
+    lent-mended (start .args .head) (now (start .args .held)) (now (start .args .piece)) (at-room .room .result) (at-joined .joined .result) (start .pre .1) (start .pre .0) (at-room .room .ensures) (at-joined .joined .ensures) (now (start .args .table)) (at-unheld .unheld .result) (at-straight .straight .result) (c .fewer .result) _ _ (at-unheld .unheld .ensures) (at-straight .straight .ensures) (c .fewer .ensures)
 
 pub mended-spec : {M : Type 1} → statement M
 mended-spec =

@@ -1,3 +1,5 @@
+-- `reader::more` meets its contract.
+-- Assumes nothing.
 use borrow.Author.Needs.{needs}
 use Rattle.reader.proofs.more.Statement.{statement}
 use Rattle.reader.proofs.more.Tie as tie

@@ -1,3 +1,5 @@
+-- `reader::no_text` meets its contract.
+-- Assumes nothing.
 use borrow.Author.Needs.{needs}
 use Rattle.reader.proofs.no_text.Statement.{statement}
 use Rattle.reader.proofs.no_text.Tie as tie

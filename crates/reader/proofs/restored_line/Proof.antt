@@ -1,3 +1,5 @@
+-- `reader::restored_line` meets its contract.
+-- Assumes nothing.
 use borrow.Author.Needs.{needs}
 use Rattle.reader.proofs.Limits.{line-known, line-fresh}
 use Rattle.reader.proofs.restored_line.Statement.{statement}

@@ -10,19 +10,27 @@ returns : tie.Need-returns
 returns c = search lent-unfit
 
 returns-2 : tie.Need-returns-2
-returns-2 c = let l = c .before .before .before .before .before .before .before .before .before .before .pre in search lent-refused
+returns-2 c =
+    let start = c .before .before .before .before .before .before .before .before .before .before in
+    let l = start .pre in search lent-refused
 
 returns-3 : tie.Need-returns-3
-returns-3 c = let l = c .before .before .before .before .before .before .before .before .before .before .pre in search lent-ended
+returns-3 c =
+    let start = c .before .before .before .before .before .before .before .before .before .before in
+    let l = start .pre in search lent-ended
 
 straight-requires : tie.Need-straight-requires
-straight-requires c κs = let l = c .before .before .before .before .before .before .before .before .before .before .before .before .before .pre in (search fit, (search needs, l))
+straight-requires c κs =
+    let start = c .before .before .before .before .before .before .before .before .before .before .before .before .before in
+    let l = start .pre in (search fit, (search needs, l))
 
 returns-4 : tie.Need-returns-4
 returns-4 c = search lent-live
 
 mended-requires : tie.Need-mended-requires
-mended-requires c κs = let l = c .before .before .before .before .before .before .before .before .before .before .before .before .before .pre in (search fit, l)
+mended-requires c κs =
+    let start = c .before .before .before .before .before .before .before .before .before .before .before .before .before in
+    let l = start .pre in (search fit, l)
 
 returns-5 : tie.Need-returns-5
 returns-5 c = search lent-live

@@ -1,3 +1,5 @@
+-- `reader::still` meets its contract.
+-- Assumes nothing.
 use borrow.Author.Needs.{needs}
 use Rattle.reader.proofs.still.Statement.{statement}
 use Rattle.reader.proofs.still.Tie as tie

@@ -13,31 +13,50 @@ is-whole : (c : tie.After-size) → WholeAt (now (c .before .before .before .bef
 is-whole c = whole-there (now (c .before .before .before .before .before .before .before .before .args .piece)) (c .before .before .front .ensures) (c .size .given .1)
 
 copy-requires : tie.Need-copy-requires
-copy-requires c κs = let s = c .before .before .before .before .before .before .before .before .before in (search needs, omega (arith, short-room (now (s .args .piece)) (c .before .before .before .front .ensures) (c .before .enum-told .given .1), s .pre .1 .1))
+copy-requires c κs =
+    let at-enum-told = c .before in
+    let at-front = at-enum-told .before .before in
+    let start = at-front .before .before .before .before .before .before in
+    (search needs, omega (arith, short-room (now (start .args .piece)) (at-front .front .ensures) (at-enum-told .enum-told .given .1), start .pre .1 .1))
 
 add-end : tie.Need-add-end
-add-end c = omega (arith, is-whole (c .before) .high)
+add-end c =
+    omega (arith, is-whole (c .before) .high)
 
 shared-slice-read-act : tie.Need-shared-slice-read-act
-shared-slice-read-act c = let w = is-whole (c .before .before) in omega (arith, w .low, w .there)
+shared-slice-read-act c =
+    let w = is-whole (c .before .before) in omega (arith, w .low, w .there)
 
 sub-act : tie.Need-sub-act
-sub-act c = omega (arith, is-whole (c .before .before) .low)
+sub-act c =
+    omega (arith, is-whole (c .before .before) .low)
 
 part-act-start : tie.Need-part-act-start
-part-act-start c = let w = is-whole (c .before .before) in omega (arith, w .low, w .there)
+part-act-start c =
+    let w = is-whole (c .before .before) in omega (arith, w .low, w .there)
 
 part-act-end : tie.Need-part-act-end
-part-act-end c = let w = is-whole (c .before .before) in omega (arith, w .low, w .there)
+part-act-end c =
+    let w = is-whole (c .before .before) in omega (arith, w .low, w .there)
 
 returns : tie.Need-returns
-returns c = let s = c .before .before .before .before .before .before .before .before .before .before .before .before .before in lent-straight-short (s .args .head) (now (s .args .held)) (now (s .args .piece)) (now (s .args .table)) (c .more .result) (s .pre .1 .0) (c .before .before .before .before .before .before .before .front .ensures) _ (s .pre .1 .1) (c .before .before .before .before .before .enum-told .given .1) (c .before .before .before .copy .ensures) (c .more .ensures)
+returns c =
+    let at-copy = c .before .before .before in
+    let at-enum-told = at-copy .before .before in
+    let at-front = at-enum-told .before .before in
+    let start = at-front .before .before .before .before .before .before in
+    lent-straight-short (start .args .head) (now (start .args .held)) (now (start .args .piece)) (now (start .args .table)) (c .more .result) (start .pre .1 .0) (at-front .front .ensures) _ (start .pre .1 .1) (at-enum-told .enum-told .given .1) (at-copy .copy .ensures) (c .more .ensures)
 
 returns-2 : tie.Need-returns-2
 returns-2 c = search lent-straight-bad
 
 returns-3 : tie.Need-returns-3
-returns-3 c = let s = c .before .before .before .before .before .before .before .before .before .before .before .before .before .before .before .before in let z = c .before .before .before .before .before .before .before .before in lent-straight-whole (s .args .head) (now (s .args .held)) (now (s .args .piece)) (now (s .args .table)) (c .closed .result) (s .pre .1 .0) (z .before .before .front .ensures) (z .size .given .0 .0) (c .before .before .before .act .result) (c .before .before .before .act .last .1 .1 .1 .1 .0) (z .size .given .1) (c .before .before .before .act .ensures) (c .closed .ensures)
+returns-3 c =
+    let at-act = c .before .before .before in
+    let at-size = at-act .before .before .before .before .before in
+    let at-front = at-size .before .before in
+    let start = at-front .before .before .before .before .before .before in
+    lent-straight-whole (start .args .head) (now (start .args .held)) (now (start .args .piece)) (now (start .args .table)) (c .closed .result) (start .pre .1 .0) (at-front .front .ensures) (at-size .size .given .0 .0) (at-act .act .result) (at-act .act .last .1 .1 .1 .1 .0) (at-size .size .given .1) (at-act .act .ensures) (c .closed .ensures)
 
 pub straight-spec : {M : Type 1} → statement M
 straight-spec =

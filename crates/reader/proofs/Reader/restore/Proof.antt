@@ -1,3 +1,5 @@
+-- `reader::Reader::restore` meets its contract.
+-- Assumes nothing.
 use borrow.Author.Needs.{needs}
 use Rattle.reader.proofs.Limits.{restore-goes}
 use Rattle.reader.proofs.Reader.restore.Statement.{statement}

@@ -1,3 +1,5 @@
+-- `reader::Reader::start` meets its contract.
+-- Assumes nothing.
 use borrow.Author.Needs.{needs}
 use Rattle.reader.proofs.Limits.{start-ready, start-refused}
 use Rattle.reader.proofs.Reader.start.Statement.{statement}

@@ -7,7 +7,11 @@ use Rattle.reader.proofs.Reader.step.Statement.{statement}
 use Rattle.reader.proofs.Reader.step.Tie as tie
 
 returns : tie.Need-returns
-returns c = let s = c .before .before .before .before .before .before .before .before .before .before .before .before .before in by-value (s .args .self) (now (s .args .table)) (now (s .args .piece)) (c .before .before .before .before .before .before .step .result) _ _ (c .before .before .before .before .before .before .before .before .before .head .result) (c .before .before .before .before .before .before .before .before .before .head .ensures) (c .before .before .before .before .before .before .step .ensures) (c .with .result) (c .with .ensures)
+returns c =
+    let at-step = c .before .before .before .before .before .before in
+    let at-head = at-step .before .before .before in
+    let start = at-head .before .before .before .before in
+    by-value (start .args .self) (now (start .args .table)) (now (start .args .piece)) (at-step .step .result) _ _ (at-head .head .result) (at-head .head .ensures) (at-step .step .ensures) (c .with .result) (c .with .ensures)
 
 pub step-spec : {M : Type 1} → statement M
 step-spec =

@@ -1,3 +1,5 @@
+-- `reader::refusals::named` meets its contract.
+-- Assumes nothing.
 use borrow.Author.Needs.{needs}
 use borrow.Author.Tests.{ne-eqb}
 use Rattle.packet.proofs.Rules.{if-no}

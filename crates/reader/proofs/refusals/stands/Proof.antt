@@ -1,3 +1,5 @@
+-- `reader::refusals::stands` meets its contract.
+-- Assumes nothing.
 use mathlib.Core.Path.{refl}
 use Rattle.reader.specs.Refusals.{standing}
 use Rattle.reader.proofs.refusals.stands.Statement.{statement}

@@ -1,3 +1,5 @@
+-- `reader::verdicts::act` meets its contract.
+-- Assumes nothing.
 use borrow.Author.Needs.{needs}
 use Rattle.reader.proofs.Ways.{act-login, act-rejected, act-message, act-heartbeat, act-end, act-skipped, act-refused, login-long, message-counts}
 use Rattle.reader.proofs.verdicts.act.Statement.{statement}

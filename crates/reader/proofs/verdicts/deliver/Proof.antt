@@ -1,3 +1,5 @@
+-- `reader::verdicts::deliver` meets its contract.
+-- Assumes nothing.
 use borrow.Author.Needs.{needs}
 use Rattle.reader.proofs.Ways.{deliver-applied, deliver-refused}
 use Rattle.reader.proofs.verdicts.deliver.Statement.{statement}

@@ -1,3 +1,5 @@
+-- `reader::verdicts::quiet` meets its contract.
+-- Assumes nothing.
 use borrow.Author.Needs.{needs}
 use Rattle.reader.proofs.verdicts.quiet.Statement.{statement}
 use Rattle.reader.proofs.verdicts.quiet.Tie as tie

@@ -1,3 +1,5 @@
+-- `reader::verdicts::settled` meets its contract.
+-- Assumes nothing.
 use borrow.Author.Needs.{needs}
 use Rattle.reader.proofs.Ways.{settled-accepted, settled-refused}
 use Rattle.reader.proofs.verdicts.settled.Statement.{statement}
