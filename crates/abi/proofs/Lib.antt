@@ -1,3 +1,4 @@
 pub mod Heads
 pub mod Ways
 pub mod Rounds
+pub mod Callers

@@ -31,9 +31,10 @@ returns-2 c =
     let at-head = at-put-unheld .before .before in
     let at-restore = at-head .before .before .before .before in
     let at-if1 = at-restore .before .before in
-    let start = at-if1 .before .before .before .before in
-    (restore-goes (now (start .args .handle)) (now (start .args .table)) (now (start .args .saved)) _ _ (at-restore .restore .result) (at-head .head .result) (at-if1 .if1 .left) (at-restore .restore .ensures) (at-head .head .ensures) (at-put-unheld .put-unheld .ensures) (c .verdict-number .ensures),
-    restore-on (now (start .args .handle)) (now (start .args .table)) (now (start .args .saved)) _ _ (at-restore .restore .result) (at-head .head .result) (fits at-head) (at-restore .restore .ensures) (at-head .head .ensures) (at-put-unheld .put-unheld .ensures))
+    let start = at-if1 .before .before .before .before in (
+      restore-goes (now (start .args .handle)) (now (start .args .table)) (now (start .args .saved)) _ _ (at-restore .restore .result) (at-head .head .result) (at-if1 .if1 .left) (at-restore .restore .ensures) (at-head .head .ensures) (at-put-unheld .put-unheld .ensures) (c .verdict-number .ensures),
+      restore-on (now (start .args .handle)) (now (start .args .table)) (now (start .args .saved)) _ _ (at-restore .restore .result) (at-head .head .result) (fits at-head) (at-restore .restore .ensures) (at-head .head .ensures) (at-put-unheld .put-unheld .ensures),
+    )
 
 pub nelqubat-restore-spec : {M : Type 1} → statement M
 nelqubat-restore-spec =

@@ -31,9 +31,10 @@ returns-2 c =
     let at-head = at-put-unheld .before .before in
     let at-start = at-head .before .before .before .before in
     let at-if1 = at-start .before .before in
-    let start = at-if1 .before .before .before in
-    (start-goes (now (start .args .handle)) (now (start .args .table)) _ _ (at-start .start .result) (at-head .head .result) (at-if1 .if1 .left) (at-start .start .ensures) (at-head .head .ensures) (at-put-unheld .put-unheld .ensures) (started-ready (c .enum-told .given .1)),
-    start-on (now (start .args .handle)) (now (start .args .table)) _ _ (at-start .start .result) (at-head .head .result) (fits at-head) (at-start .start .ensures) (at-head .head .ensures) (at-put-unheld .put-unheld .ensures))
+    let start = at-if1 .before .before .before in (
+      start-goes (now (start .args .handle)) (now (start .args .table)) _ _ (at-start .start .result) (at-head .head .result) (at-if1 .if1 .left) (at-start .start .ensures) (at-head .head .ensures) (at-put-unheld .put-unheld .ensures) (started-ready (c .enum-told .given .1)),
+      start-on (now (start .args .handle)) (now (start .args .table)) _ _ (at-start .start .result) (at-head .head .result) (fits at-head) (at-start .start .ensures) (at-head .head .ensures) (at-put-unheld .put-unheld .ensures),
+    )
 
 returns-3 : tie.Need-returns-3
 returns-3 c =
@@ -41,9 +42,10 @@ returns-3 c =
     let at-head = at-put-unheld .before .before in
     let at-start = at-head .before .before .before .before in
     let at-if1 = at-start .before .before in
-    let start = at-if1 .before .before .before in
-    (start-goes (now (start .args .handle)) (now (start .args .table)) _ _ (at-start .start .result) (at-head .head .result) (at-if1 .if1 .left) (at-start .start .ensures) (at-head .head .ensures) (at-put-unheld .put-unheld .ensures) (search started-refused),
-    start-on (now (start .args .handle)) (now (start .args .table)) _ _ (at-start .start .result) (at-head .head .result) (fits at-head) (at-start .start .ensures) (at-head .head .ensures) (at-put-unheld .put-unheld .ensures))
+    let start = at-if1 .before .before .before in (
+      start-goes (now (start .args .handle)) (now (start .args .table)) _ _ (at-start .start .result) (at-head .head .result) (at-if1 .if1 .left) (at-start .start .ensures) (at-head .head .ensures) (at-put-unheld .put-unheld .ensures) (search started-refused),
+      start-on (now (start .args .handle)) (now (start .args .table)) _ _ (at-start .start .result) (at-head .head .result) (fits at-head) (at-start .start .ensures) (at-head .head .ensures) (at-put-unheld .put-unheld .ensures),
+    )
 
 pub nelqubat-start-spec : {M : Type 1} → statement M
 nelqubat-start-spec =
