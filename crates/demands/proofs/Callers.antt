@@ -31,7 +31,7 @@ use Rattle.reader.specs.declared.Stepped.{Stepped}
 use Rattle.reader.specs.declared.Started.{Started}
 use Rattle.demands.specs.Callers.{Steps, stop, step}
 use Rattle.demands.specs.Sound.{begin, SoundSession, Ours}
-use Rattle.demands.proofs.Bytes.{bytes-none, bytes-append, bytes-left, bytes-right, bytes-drop}
+use Rattle.demands.proofs.Bytes.{bytes-none, spaces-bytes, bytes-append, bytes-left, bytes-right, bytes-drop}
 use Rattle.demands.proofs.Kept.{Kept, ours-kept, kept-ours, ours-within, stepping-is, step-ours}
 
 -- ---- steps
@@ -59,16 +59,20 @@ steps-ours stop o b = o
 steps-ours (step {r = r} {t = t} piece more s t′ h c) o b =
     steps-ours c (step-ours r t piece s t′ o (bytes-left piece more b) h) (next-bytes piece more (s .taken) b)
 
-unfinished-in : (st : State (Session Table)) → frame (heldIn st) ≡ short → Unfinished st
-unfinished-in (live s held) h = h
-unfinished-in (stream.ended s held) h = tt
-unfinished-in (stream.refused s held e n) h = tt
+unfinished-by : (st : State (Session Table)) → frame (heldIn st) ≡ short → Unfinished st
+unfinished-by (live s held) h = h
+unfinished-by (stream.ended s held) h = tt
+unfinished-by (stream.refused s held e n) h = tt
+
+-- what is ours holds no whole packet
+pub unfinished-in : (r : Reader) (t : List ℕ) → Ours r t → Unfinished (stateOf r t)
+unfinished-in r t o = unfinished-by (stateOf r t) (ours-kept r t o .short)
 
 -- the steps of a reader of ours that is given every byte, or has ended or refused
 pub steps-read : {r r′ : Reader} {t bs t′ left : List ℕ} {es : List (Event Said)} → Steps r t bs es r′ t′ left → Ours r t → Bytes bs
     → NothingLeft (stateOf r′ t′) left → reading (soupBinTCP deliver) (stateOf r t) bs ≡ record { events = es; state = stateOf r′ t′ }
 steps-read {r = r} {t = t} c o b none =
-    any-caller (soupBinTCP deliver) (steps-called c o b) (unfinished-in (stateOf r t) (ours-kept r t o .short)) none
+    any-caller (soupBinTCP deliver) (steps-called c o b) (unfinished-in r t o) none
 
 -- ---- from the start
 
@@ -83,6 +87,7 @@ unfolding boardKeeps listed
 begin-sound =
     record {
       range = record { some = omega arith; most = omega arith };
+      name = spaces-bytes 10;
       about = record { rows = zeros-sound tableSize refl; board = refl };
       whose = inr refl;
     }

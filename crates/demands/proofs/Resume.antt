@@ -1,97 +1,133 @@
 -- DEMAND 3, SECOND HALF: stop, save, restore, log in again, and go on as the run that never stopped.
 -- Assumes nothing.
 use mathlib.Core.Path.{_≡_, refl, sym, ap, _∙_, subst}
+use mathlib.Core.Logic.{_⊎_, inl, inr}
 use mathlib.Core.List.{List, [], _++_}
 use mathlib.Core.Bool.{true, false}
 use Prim.Native.Nat.{ℕ, _≤_}
+use native.Mathlib.Omega.{arith}
 use lib.ListN.{length}
 use Rattle.field.specs.Bytes.{part, Bytes}
 use Rattle.packet.specs.Frame.{frame}
-use Rattle.packet.specs.Stream.{State, live, Unfinished, NothingLeft, Run, first, _then_, reading}
+use Rattle.packet.specs.Stream.{State, live, NothingLeft, Run, first, _then_, reading}
 use Rattle.packet.specs.Line.{LoggedIn}
-use Rattle.packet.specs.Session.{Session, Event, login, soupBinTCP, anyLogin, loginPacket}
+use Rattle.packet.specs.Session.{Session, Event, login, soupBinTCP, anyLogin, loginPacket, restored}
 use Rattle.packet.proofs.Cut.{reading-cut}
-use Rattle.packet.proofs.Keep.{login-told}
+use Rattle.packet.proofs.Keep.{login-told, session-keeps, logged-stays, StateHas}
 use Rattle.packet.proofs.Resume.{resume}
 use Rattle.table.specs.Memory.{tableSize}
 use Rattle.image.specs.Save.{sizeFor}
 use Rattle.image.specs.declared.Saved.{Saved}
 use Rattle.image.specs.declared.Saved.the-variants.{Whole}
 use Rattle.image.specs.declared.Verdict.the-variants.{Accepted}
+use Rattle.reader.specs.Refusals.{standing}
 use Rattle.reader.specs.Deliver.{Table, Said, deliver}
-use Rattle.reader.specs.View.{sessionOf, stateOf}
-use Rattle.reader.specs.Calls.{Starting}
-use Rattle.reader.specs.Saving.{Saves, Restores}
-use Rattle.reader.specs.declared.StartAnswer.the-variants.{Ready}
+use Rattle.reader.specs.View.{sessionOf, heldOf, stateOf}
+use Rattle.reader.specs.Saving.{Saves, Came, restoreAll, Restores}
 use Rattle.reader.specs.declared.Reader.{Reader}
-use Rattle.reader.specs.declared.Started.{Started}
 use Rattle.reader.specs.declared.Restored.{Restored}
 use Rattle.demands.specs.Callers.{Steps}
-use Rattle.demands.specs.Sound.{begin, Ours}
+use Rattle.demands.specs.Sound.{Ours}
 use Rattle.demands.specs.Stopped.{StoppedAt, GoesOn}
+use Rattle.demands.proofs.Bytes.{bytes-none, bytes-append, bytes-right, login-bytes}
 use Rattle.demands.proofs.View.{sessionIn, refusalIn, session-of, refusal-of}
-use Rattle.demands.proofs.Callers.{steps-called, steps-read, started, start-ours, any-cuts, rules-kept}
-use Rattle.demands.proofs.Saved.{ours-saved, saved-comes-back, restore-ours}
+use Rattle.demands.proofs.Kept.{Kept, kept-ours}
+use Rattle.demands.proofs.Callers.{steps-called, steps-read, steps-ours, unfinished-in}
+use Rattle.demands.proofs.Saved.{ours-saved, saved-comes-back}
 use Rattle.demands.proofs.Stopped.{Took, called-took, stopped-at}
 
 abbrev ran : List (Event Said) → State (Session Table) → Run (Session Table) (Event Said)
 ran es st = record { events = es; state = st }
 
--- a reader that was started without refusal is stepped with the bytes of a session, and stopped after a login and before any end
-module _ (m : List ℕ) (b : Started) (m₁ : List ℕ) (start : Starting m b m₁) (ready : b .answer ≡ Ready)
-    (bs : List ℕ) (bytes : Bytes bs) (es : List (Event Said)) (r : Reader) (t left : List ℕ) (before : Steps (b .reader) m₁ bs es r t left)
-    (logged : anyLogin es ≡ true) (unended : r .ended ≡ false) where
+-- A reader that our own calls made, and that has neither ended nor refused, is stepped with bytes. It is logged in, or a login is among them, and it is
+-- stopped before any end.
+module _ (r₀ : Reader) (t₀ : List ℕ) (o₀ : Ours r₀ t₀) (open₀ : (r₀ .refusal ≡ 0) × (r₀ .ended ≡ false))
+    (bs : List ℕ) (bytes : Bytes bs) (es : List (Event Said)) (r : Reader) (t left : List ℕ) (before : Steps r₀ t₀ bs es r t left)
+    (logged : LoggedIn (r₀ .line) ⊎ (anyLogin es ≡ true)) (unended : r .ended ≡ false) where
+  abbrev session₀ : Session Table
+  session₀ = sessionOf (r₀ .line) (r₀ .board) t₀
+
   abbrev session : Session Table
   session = sessionOf (r .line) (r .board) t
 
+  begun : stateOf r₀ t₀ ≡ live session₀ (heldOf r₀)
+  begun = rw (open₀ .0, open₀ .1)
+
   -- THEOREM: there is a last accepted packet, and bytes that follow it: those that are held or were refused, and those that were not taken
-  pub stopped : StoppedAt bs es session
-  unfolding frame
+  pub stopped : StoppedAt session₀ (heldOf r₀) bs es session
   stopped =
-      stopped-at bs left r t
-      (subst (λ (st : State (Session Table)). Took (soupBinTCP deliver) st bs es (stateOf r t) left) (started m b m₁ start ready .0)
-      (called-took (soupBinTCP deliver) (steps-called before (start-ours m b m₁ start ready) bytes)
-      (subst Unfinished (sym (started m b m₁ start ready .0)) refl)))
+      stopped-at session₀ (heldOf r₀) bs left r t
+      (subst (λ (st : State (Session Table)). Took (soupBinTCP deliver) st bs es (stateOf r t) left) begun
+      (called-took (soupBinTCP deliver) (steps-called before o₀ bytes) (unfinished-in r₀ t₀ o₀)))
       unended
 
   ours : Ours r t
-  ours = rules-kept m b m₁ start ready bytes before
+  ours = steps-ours before o₀ bytes
 
   is-logged-in : LoggedIn (r .line)
-  is-logged-in = login-told deliver begin [] (stopped .accepted) (stopped .told) logged
+  is-logged-in = by logged
+    where
+      by : LoggedIn (r₀ .line) ⊎ (anyLogin es ≡ true) → LoggedIn (r .line)
+      by (inl l) =
+          subst (StateHas (λ (s : Session Table). LoggedIn (s .line)) (λ _. Unit))
+          (ap (λ (x : Run (Session Table) (Event Said)). x .state) (stopped .told))
+          (session-keeps deliver (logged-stays deliver) (live session₀ []) (stopped .accepted) l)
+      by (inr e) = login-told deliver session₀ [] (stopped .accepted) (stopped .told) e
 
   -- it is saved to an output that is long enough, and restored from it to memory of the right length
   module _ (out : List ℕ) (room : sizeFor (r .board .rows) ≤ length out) (a : Saved) (z : List ℕ) (save : Saves r t out a z)
-      (m₂ : List ℕ) (long : length m₂ ≡ tableSize) (q : Restored) (m₃ : List ℕ)
-      (restore : Restores (part z 0 (sizeFor (r .board .rows))) m₂ q m₃) where
+      (m : List ℕ) (long : length m ≡ tableSize) (q : Restored) (m′ : List ℕ)
+      (restore : Restores (part z 0 (sizeFor (r .board .rows))) m q m′) where
+    back : (q .verdict ≡ Accepted) × (stateOf (q .reader) m′ ≡ live (restored session) [])
+    back = saved-comes-back r t ours (is-logged-in .known) out room a z save (is-logged-in .ten) m long q m′ restore
+
     -- THEOREM: neither is refused
     pub not-refused : (a ≡ Whole (sizeFor (r .board .rows))) × (q .verdict ≡ Accepted)
-    not-refused = (
-      ours-saved r t ours out room a z save,
-      saved-comes-back r t ours (is-logged-in .known) out room a z save (is-logged-in .ten) m₂ long q m₃ restore .0,
-    )
+    not-refused = (ours-saved r t ours out room a z save, back .0)
+
+    -- THEOREM: the restored reader is again one that our own calls made, so that it may be stopped again
+    pub restored-ours : Ours (q .reader) m′
+    unfolding frame standing restoreAll
+    restored-ours =
+        let k : Kept (live (restored session) [])
+        = record {
+          sound = record {
+            range = record { some = ours .sound .range .some; most = ours .sound .range .most };
+            name = ours .sound .name;
+            about = ours .sound .about;
+            whose = inl refl;
+          };
+          stands = refl;
+          short = refl;
+          bytes = bytes-none;
+        } in
+        kept-ours (q .reader) m′ (subst Kept (sym (back .1)) k) (omega (arith, ap (λ (c : Came). c .used) restore))
 
     -- THEOREM: the restored reader is given a login for the saved session and number, and then the bytes that follow the last accepted packet. Its
     -- later events, the table and any refusal are those of the run that never stopped.
-    pub goes-on : (s : StoppedAt bs es session) (es₁ : List (Event Said)) (r₁ : Reader) (t₁ left₁ : List ℕ)
-        → Bytes (loginPacket (r .line .session) (r .line .next) ++ s .following)
-        → Steps (q .reader) m₃ (loginPacket (r .line .session) (r .line .next) ++ s .following) es₁ r₁ t₁ left₁ → NothingLeft (stateOf r₁ t₁) left₁
+    pub goes-on : (s : StoppedAt session₀ (heldOf r₀) bs es session) (es₁ : List (Event Said)) (r₁ : Reader) (t₁ left₁ : List ℕ)
+        → Steps (q .reader) m′ (loginPacket (r .line .session) (r .line .next) ++ s .following) es₁ r₁ t₁ left₁ → NothingLeft (stateOf r₁ t₁) left₁
         → (es₂ : List (Event Said)) (r₂ : Reader) (t₂ left₂ : List ℕ)
-        → Steps (b .reader) m₁ bs es₂ r₂ t₂ left₂ → NothingLeft (stateOf r₂ t₂) left₂
+        → Steps r₀ t₀ bs es₂ r₂ t₂ left₂ → NothingLeft (stateOf r₂ t₂) left₂
         → GoesOn session es es₁ es₂ r₁ t₁ r₂ t₂
-    goes-on s es₁ r₁ t₁ left₁ given after none₁ es₂ r₂ t₂ left₂ never none₂ =
+    unfolding reading
+    goes-on s es₁ r₁ t₁ left₁ after none₁ es₂ r₂ t₂ left₂ never none₂ =
         let j = soupBinTCP deliver in
         let l : List ℕ = loginPacket (r .line .session) (r .line .next) in
-        let back = saved-comes-back r t ours (is-logged-in .known) out room a z save (is-logged-in .ten) m₂ long q m₃ restore in
+        let following : Bytes (s .following)
+        = bytes-right (s .accepted) (s .following) (subst Bytes (sym (s .whole)) (bytes-append (heldOf r₀) bs (o₀ .bytes) bytes)) in
+        let given : Bytes (l ++ s .following)
+        = bytes-append l (s .following) (login-bytes (r .line .session) (r .line .next) (ours .sound .name)) following in
         let rest : Run (Session Table) (Event Said) = reading j (live session []) (s .following) in
         let one : ran es₁ (stateOf r₁ t₁) ≡ first (login (r .line .next) (r .line .session)) rest
-        = sym (steps-read after (restore-ours (part z 0 (sizeFor (r .board .rows))) m₂ q m₃ restore (back .0)) given none₁)
+        = sym (steps-read after restored-ours given none₁)
         ∙ ap (λ (st : State (Session Table)). reading j st (l ++ s .following)) (back .1)
         ∙ resume deliver session (ours .sound .range) is-logged-in (s .following) in
         let two : ran es₂ (stateOf r₂ t₂) ≡ ran (es ++ rest .events) (rest .state)
-        = sym (any-cuts m b m₁ start ready bytes never none₂)
-        ∙ ap (reading j (live begin [])) (sym (s .whole))
-        ∙ reading-cut j (live begin []) (s .accepted) (s .following)
+        = sym (steps-read never o₀ bytes none₂)
+        ∙ ap (λ (st : State (Session Table)). reading j st bs) begun
+        ∙ ap (λ (xs : List ℕ). reading j (live session₀ []) xs) (sym (s .whole))
+        ∙ reading-cut j (live session₀ []) (s .accepted) (s .following)
         ∙ ap (λ (x : Run (Session Table) (Event Said)). x then (λ st. reading j st (s .following))) (s .told) in
         let same : stateOf r₁ t₁ ≡ stateOf r₂ t₂
         = ap (λ (x : Run (Session Table) (Event Said)). x .state) one ∙ sym (ap (λ (x : Run (Session Table) (Event Said)). x .state) two) in

@@ -9,11 +9,12 @@ use native.Mathlib.Omega.{arith}
 use borrow.Author.Tests.{eqb-true, le-leb, leb-true}
 use lib.Dec.{eqb, leb}
 use lib.ListN.{length, replicate}
-use Rattle.field.specs.Bytes.{part, overlay}
+use Rattle.field.specs.Bytes.{part, overlay, Bytes}
 use Rattle.field.specs.Limits.{highestNumber, numberInRange}
 use Rattle.field.specs.Text.{every, isSpace}
 use Rattle.field.proofs.Bools.{both-left, both-right}
 use Rattle.field.proofs.Parts.{part-all}
+use Rattle.field.proofs.Numbers.{part-bytes}
 use Rattle.packet.specs.Frame.{short, frame}
 use Rattle.packet.specs.Stream.{live}
 use Rattle.packet.specs.Line.{freshLine, InRange}
@@ -23,6 +24,7 @@ use Rattle.table.specs.Board.{freshBoard}
 use Rattle.table.specs.Rules.{Sound, boardKeeps}
 use Rattle.table.specs.declared.Board.{Board}
 use Rattle.image.specs.Shape.{pagesFor, blocksFor}
+use Rattle.image.specs.Header as headers
 use Rattle.image.specs.Header.{freshHeader, headerKeeps, isFresh}
 use Rattle.image.specs.Save.{Saving, saving, unsaved, imageOf, sizeFor, saveOf}
 use Rattle.image.specs.Restore as images
@@ -34,7 +36,7 @@ use Rattle.image.specs.declared.Saved.{Saved}
 use Rattle.image.specs.declared.Saved.the-variants.{Whole, Unsaved}
 use Rattle.image.specs.declared.Verdict.{Verdict}
 use Rattle.image.specs.declared.Verdict.the-variants as verdict
-use Rattle.image.proofs.Rounds.{Good, Stored, stored, sound-saved, sound-cleared, saved-restored, restored-good}
+use Rattle.image.proofs.Rounds.{Good, Stored, stored, taken, sound-saved, sound-cleared, saved-restored, restored-good}
 use Rattle.image.proofs.Fresh.{fresh-saved}
 use Rattle.image.proofs.Verdicts.{unsaved-leaves, refused-leaves}
 use Rattle.reader.specs.Refusals.{standing}
@@ -46,7 +48,7 @@ use Rattle.reader.specs.declared.Reader.{Reader}
 use Rattle.reader.specs.declared.Restored.{Restored}
 use Rattle.demands.specs.Same.{SameReader}
 use Rattle.demands.specs.Sound.{begin, SoundSession, Ours}
-use Rattle.demands.proofs.Bytes.{bytes-none}
+use Rattle.demands.proofs.Bytes.{bytes-none, spaces-bytes}
 use Rattle.demands.proofs.Kept.{Kept, kept-ours, ours-within}
 use Rattle.demands.proofs.Equal.{same-readers}
 
@@ -124,11 +126,16 @@ came-range : (h : Header) → numberInRange (h .next) ≡ true → (k : Bool) �
 came-range h e true k = rw k (record { some = leb-true 1 (h .next) (both-left (leb 1 (h .next)) (leb (h .next) highestNumber) e); most = leb-true (h .next) highestNumber (both-right (leb 1 (h .next)) (leb (h .next) highestNumber) e) })
 came-range h e false k = rw k (record { some = omega arith; most = omega arith })
 
-came-sound : (h : Header) (mem : List ℕ) → Good h mem → SoundSession (sessionOf (lineOf h) (h .board) mem)
+came-name : (h : Header) → Bytes (h .session) → (k : Bool) → h .known ≡ k → Bytes (lineOf h .session)
+came-name h b true k = rw k b
+came-name h b false k = rw k (spaces-bytes 10)
+
+came-sound : (h : Header) (mem : List ℕ) → Good h mem → Bytes (h .session) → SoundSession (sessionOf (lineOf h) (h .board) mem)
 unfolding headerKeeps
-came-sound h mem g =
+came-sound h mem g b =
     record {
       range = came-range h (g .next) (h .known) refl;
+      name = came-name h b (h .known) refl;
       about = record { rows = g .sound; board = both-left (boardKeeps (h .board)) _ (g .header) };
       whose = came-whose h mem g (h .known) refl (both-right (boardKeeps (h .board)) (h .known || isFresh h) (g .header));
     }
@@ -140,14 +147,22 @@ module _ (bytes t : List ℕ) (q : Restored) (t₁ : List ℕ) (h : Restores byt
       let o = restoreOf bytes t in
       ap (λ (y : Verdict). restoring (images.restored y (o .answer .header)) (o .memory)) (sym (ap (λ (c : Came). c .verdict) h) ∙ v)
 
-  -- THEOREM: a reader that was restored without refusal, and its table, are as our own calls make them
-  pub restore-ours : Ours (q .reader) t₁
+  -- the session that an image of bytes names
+  header-name : Bytes bytes → Bytes (restoreOf bytes t .answer .header .session)
+  unfolding headers.headerOf
+  header-name b =
+      let o = restoreOf bytes t in
+      rw (taken bytes t (o .memory) (o .answer .header) accepted-is .1) (part-bytes bytes 14 10 b)
+
+  -- THEOREM: a reader that was restored from bytes without refusal, and its table, are as our own calls make them
+  pub restore-ours : Bytes bytes → Ours (q .reader) t₁
   unfolding restoreAll frame standing
-  restore-ours =
+  restore-ours b =
       let o = restoreOf bytes t in
       let k : Kept (live (sessionOf (lineOf (o .answer .header)) (o .answer .header .board) (o .memory)) [])
       = record {
-        sound = came-sound (o .answer .header) (o .memory) (restored-good bytes t (o .memory) (o .answer .header) accepted-is);
+        sound =
+            came-sound (o .answer .header) (o .memory) (restored-good bytes t (o .memory) (o .answer .header) accepted-is) (header-name b);
         stands = refl;
         short = refl;
         bytes = bytes-none;

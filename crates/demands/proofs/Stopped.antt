@@ -16,7 +16,6 @@ use Rattle.packet.proofs.Refused.{session-leaves, refused-as-before}
 use Rattle.reader.specs.Deliver.{Table, Said, deliver}
 use Rattle.reader.specs.View.{sessionOf, heldOf, stateOf}
 use Rattle.reader.specs.declared.Reader.{Reader}
-use Rattle.demands.specs.Sound.{begin}
 use Rattle.demands.specs.Stopped.{StoppedAt}
 use Rattle.demands.proofs.Applied.{deliver-undone}
 
@@ -103,36 +102,34 @@ module _ {S E : Type 0} (judge : S → ℕ → List ℕ → Verdict S E) where
 
 -- ---- THE STOP: a reader that was stopped, live or refused
 
-module _ (bs left : List ℕ) {es : List (Event Said)} (r : Reader) (t : List ℕ)
-    (k : Took (soupBinTCP deliver) (live begin []) bs es (stateOf r t) left) (unended : r .ended ≡ false) where
+module _ (s₀ : Session Table) (held bs left : List ℕ) {es : List (Event Said)} (r : Reader) (t : List ℕ)
+    (k : Took (soupBinTCP deliver) (live s₀ held) bs es (stateOf r t) left) (unended : r .ended ≡ false) where
   abbrev session : Session Table
   session = sessionOf (r .line) (r .board) t
 
-  stop-live : stateOf r t ≡ live session (heldOf r) → StoppedAt bs es session
+  -- the bytes up to the stop, and what follows them
+  whole-bytes : (before from : List ℕ) → before ++ from ≡ held ++ k .taken → before ++ (from ++ left) ≡ held ++ bs
+  whole-bytes before from e =
+      sym (append-assoc before from left)
+      ∙ ap (λ (l : List ℕ). l ++ left) e
+      ∙ append-assoc held (k .taken) left
+      ∙ ap (λ (l : List ℕ). held ++ l) (k .whole)
+
+  stop-live : stateOf r t ≡ live session (heldOf r) → StoppedAt s₀ held bs es session
   unfolding reading
   stop-live e =
-      let h = held-at (soupBinTCP deliver) begin (k .taken) (k .read ∙ ap (run (soupBinTCP deliver) es) e) in
-      record {
-        accepted = h .before;
-        following = heldOf r ++ left;
-        whole = sym (append-assoc (h .before) (heldOf r) left) ∙ ap (λ (l : List ℕ). l ++ left) (h .whole) ∙ k .whole;
-        told = h .read;
-      }
+      let h = held-at (soupBinTCP deliver) s₀ (held ++ k .taken) (k .read ∙ ap (run (soupBinTCP deliver) es) e) in
+      record { accepted = h .before; following = heldOf r ++ left; whole = whole-bytes (h .before) (heldOf r) (h .whole); told = h .read }
 
-  stop-refused : stateOf r t ≡ refused session (heldOf r) (r .ended) (r .refusal) → StoppedAt bs es session
+  stop-refused : stateOf r t ≡ refused session (heldOf r) (r .ended) (r .refusal) → StoppedAt s₀ held bs es session
   unfolding reading
   stop-refused e =
-      let h = refused-as-before (soupBinTCP deliver) (session-leaves deliver deliver-undone) begin [] (k .taken) (k .read ∙ ap (run (soupBinTCP deliver) es) e) .2 in
-      record {
-        accepted = h .before;
-        following = h .from ++ left;
-        whole = sym (append-assoc (h .before) (h .from) left) ∙ ap (λ (l : List ℕ). l ++ left) (h .whole) ∙ k .whole;
-        told = h .read;
-      }
+      let h = refused-as-before (soupBinTCP deliver) (session-leaves deliver deliver-undone) s₀ held (k .taken) (k .read ∙ ap (run (soupBinTCP deliver) es) e) .2 in
+      record { accepted = h .before; following = h .from ++ left; whole = whole-bytes (h .before) (h .from) (h .whole); told = h .read }
 
-  pub stopped-at : StoppedAt bs es session
+  pub stopped-at : StoppedAt s₀ held bs es session
   stopped-at = by (eqb (r .refusal) 0) refl
     where
-      by : (y : Bool) → eqb (r .refusal) 0 ≡ y → StoppedAt bs es session
+      by : (y : Bool) → eqb (r .refusal) 0 ≡ y → StoppedAt s₀ held bs es session
       by true e = stop-live (rw (e, unended))
       by false e = stop-refused (rw e)

@@ -27,9 +27,10 @@ pub record SoundTable (t : Table) : Type 0 where
 abbrev pub begin : Session Table
 begin = sessionOf freshLine freshBoard (replicate tableSize 0)
 
--- the next number is in range; the table is sound; and where no session is known, nothing has happened
+-- the next number is in range; the session's name is bytes; the table is sound; and where no session is known, nothing has happened
 pub record SoundSession (s : Session Table) : Type 0 where
   pub range : InRange (s .line)
+  pub name : Bytes (s .line .session)
   pub about : SoundTable (s .about)
   pub whose : (s .line .known ≡ true) ⊎ (s ≡ begin)
 

@@ -8,15 +8,14 @@ use Rattle.packet.specs.Session.{Session, Event, login, soupBinTCP}
 use Rattle.reader.specs.Deliver.{Table, Said, deliver}
 use Rattle.reader.specs.View.{stateOf}
 use Rattle.reader.specs.declared.Reader.{Reader}
-use Rattle.demands.specs.Sound.{begin}
 
--- Of the bytes `bs` of a session, `accepted` are those of the packets that were accepted and told the events `es`: they leave the session `s`, with
--- nothing held. `following` follow the last of them.
-pub record StoppedAt (bs : List ℕ) (es : List (Event Said)) (s : Session Table) : Type 0 where
+-- A session `s₀` of which `held` are held is given the bytes `bs`. `accepted` are those of the packets that were accepted and told the events `es`: they
+-- leave the session `s`, with nothing held. `following` follow the last of them.
+pub record StoppedAt (s₀ : Session Table) (held bs : List ℕ) (es : List (Event Said)) (s : Session Table) : Type 0 where
   pub accepted : List ℕ
   pub following : List ℕ
-  pub whole : accepted ++ following ≡ bs
-  pub told : reading (soupBinTCP deliver) (live begin []) accepted ≡ record { events = es; state = live s [] }
+  pub whole : accepted ++ following ≡ held ++ bs
+  pub told : reading (soupBinTCP deliver) (live s₀ []) accepted ≡ record { events = es; state = live s [] }
 
 -- The run that was stopped told the events `es` before the stop, and `es₁` after it; the one that never stopped told `es₂`. After its login the first
 -- tells what the second tells, and they leave the same state: the line, the board, the table's memory, what is held, and any refusal.
