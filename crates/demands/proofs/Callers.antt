@@ -88,6 +88,7 @@ begin-sound =
     record {
       range = record { some = omega arith; most = omega arith };
       name = spaces-bytes 10;
+      ten = refl;
       about = record { rows = zeros-sound tableSize refl; board = refl };
       whose = inr refl;
     }

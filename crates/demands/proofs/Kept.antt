@@ -10,6 +10,7 @@ use borrow.Author.Tests.{le-leb}
 use lib.ListN.{length}
 use Rattle.field.specs.Bytes.{Bytes}
 use Rattle.field.specs.Limits.{highestNumber}
+use Rattle.field.proofs.Parts.{part-length}
 use Rattle.field.proofs.Numbers.{part-bytes}
 use Rattle.packet.specs.Frame.{Framed, short, badLength, packet, frame, heldSize}
 use Rattle.packet.specs.Refusals.{faultNumber}
@@ -58,11 +59,11 @@ known-when-logged : (s : Session Table) → s .line .logged ≡ true → (s .lin
 known-when-logged s l (inl k) = k
 known-when-logged s l (inr e) = absurd (never (sym (ap (λ (q : Session Table). q .line .logged) e) ∙ l))
 
-delivered-sound : (l : Line) (d : Delivered Table Said) → InRange l → Bytes (l .session) → l .known ≡ true → (l .next ≡ highestNumber → ⊥) → Delivers d
+delivered-sound : (l : Line) (d : Delivered Table Said) → InRange l → Bytes (l .session) → length (l .session) ≡ 10 → l .known ≡ true → (l .next ≡ highestNumber → ⊥) → Delivers d
     → VerdictHas SoundSession Stands (delivered l d)
-delivered-sound l (done x t) r name k n h =
-    record { range = record { some = omega (arith, r .some); most = omega (arith, n, r .most) }; name = name; about = h; whose = inl k }
-delivered-sound l (denied m t) r name k n h = (record { range = r; name = name; about = h .0; whose = inl k }, h .1)
+delivered-sound l (done x t) r name ten k n h =
+    record { range = record { some = omega (arith, r .some); most = omega (arith, n, r .most) }; name = name; ten = ten; about = h; whose = inl k }
+delivered-sound l (denied m t) r name ten k n h = (record { range = r; name = name; ten = ten; about = h .0; whose = inl k }, h .1)
 
 does-sound : (s : Session Table) (body : List ℕ) (p : Packet) → Bytes body → SoundSession s → Known (s .line) body p
     → VerdictHas SoundSession Stands (does deliver s body p)
@@ -70,12 +71,13 @@ does-sound s body (packets.Login n) b h k =
     record {
       range = record { some = h .range .some; most = h .range .most };
       name = part-bytes body 0 10 b;
+      ten = part-length body 0 10 (omega (arith, k .0));
       about = h .about;
       whose = inl refl;
     }
 does-sound s body (packets.Rejected r) b h k = h
 does-sound s body packets.Message b h k =
-    delivered-sound (s .line) (deliver (s .about) body) (h .range) (h .name) (known-when-logged s (k .0) (h .whose)) (k .1)
+    delivered-sound (s .line) (deliver (s .about) body) (h .range) (h .name) (h .ten) (known-when-logged s (k .0) (h .whose)) (k .1)
     (deliver-kept (s .about) body b (h .about))
 does-sound s body packets.Heartbeat b h k = h
 does-sound s body packets.End b h k = h

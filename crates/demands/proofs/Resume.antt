@@ -33,7 +33,7 @@ use Rattle.demands.proofs.Bytes.{bytes-none, bytes-append, bytes-right,
 use Rattle.demands.proofs.View.{sessionIn, refusalIn, session-of, refusal-of}
 use Rattle.demands.proofs.Kept.{Kept, kept-ours}
 use Rattle.demands.proofs.Callers.{steps-called, steps-read, steps-ours, unfinished-in}
-use Rattle.demands.proofs.Saved.{ours-saved, saved-comes-back}
+use Rattle.demands.proofs.Saved.{ours-saved, comes-back}
 use Rattle.demands.proofs.Stopped.{Took, called-took, stopped-at}
 
 abbrev ran : List (Event Said) → State (Session Table) → Run (Session Table) (Event Said)
@@ -79,7 +79,9 @@ module _ (r₀ : Reader) (t₀ : List ℕ) (o₀ : Ours r₀ t₀) (open₀ : (r
       (m : List ℕ) (long : length m ≡ tableSize) (q : Restored) (m′ : List ℕ)
       (restore : Restores (part z 0 (sizeFor (r .board .rows))) m q m′) where
     back : (q .verdict ≡ Accepted) × (stateOf (q .reader) m′ ≡ live (restored session) [])
-    back = saved-comes-back r t ours (is-logged-in .known) out room a z save (is-logged-in .ten) m long q m′ restore
+    back =
+        let b = comes-back r t ours out room a z save m long q m′ restore in
+        (b .0, b .1 ∙ rw (is-logged-in .known))
 
     -- THEOREM: neither is refused
     pub not-refused : (a ≡ Whole (sizeFor (r .board .rows))) × (q .verdict ≡ Accepted)
@@ -94,6 +96,7 @@ module _ (r₀ : Reader) (t₀ : List ℕ) (o₀ : Ours r₀ t₀) (open₀ : (r
           sound = record {
             range = record { some = ours .sound .range .some; most = ours .sound .range .most };
             name = ours .sound .name;
+            ten = ours .sound .ten;
             about = ours .sound .about;
             whose = inl refl;
           };

@@ -13,12 +13,14 @@ use Rattle.field.specs.Bytes.{part, overlay, Bytes}
 use Rattle.field.specs.Limits.{highestNumber, numberInRange}
 use Rattle.field.specs.Text.{every, isSpace}
 use Rattle.field.proofs.Bools.{both-left, both-right}
-use Rattle.field.proofs.Parts.{part-all}
+use Rattle.field.proofs.Runs.{spaces-are}
+use Rattle.field.proofs.Parts.{part-all, part-length}
 use Rattle.field.proofs.Numbers.{part-bytes}
 use Rattle.packet.specs.Frame.{short, frame}
 use Rattle.packet.specs.Stream.{live}
 use Rattle.packet.specs.Line.{freshLine, InRange}
-use Rattle.packet.specs.Session.{Session, restored}
+use Rattle.packet.specs.Session.{Session}
+use Rattle.packet.specs.declared.Line.{Line}
 use Rattle.table.specs.Memory.{tableSize, rowAt}
 use Rattle.table.specs.Board.{freshBoard}
 use Rattle.table.specs.Rules.{Sound, boardKeeps}
@@ -26,7 +28,7 @@ use Rattle.table.specs.declared.Board.{Board}
 use Rattle.image.specs.Shape.{pagesFor, blocksFor}
 use Rattle.image.specs.Header as headers
 use Rattle.image.specs.Header.{freshHeader, headerKeeps, isFresh}
-use Rattle.image.specs.Save.{Saving, saving, unsaved, imageOf, sizeFor, saveOf}
+use Rattle.image.specs.Save.{Saving, saving, unsaved, cleared, imageOf, sizeFor, saveOf}
 use Rattle.image.specs.Restore as images
 use Rattle.image.specs.Restore.{Restoring, restoring, restoreOf}
 use Rattle.image.specs.declared.Header.{Header}
@@ -36,7 +38,8 @@ use Rattle.image.specs.declared.Saved.{Saved}
 use Rattle.image.specs.declared.Saved.the-variants.{Whole, Unsaved}
 use Rattle.image.specs.declared.Verdict.{Verdict}
 use Rattle.image.specs.declared.Verdict.the-variants as verdict
-use Rattle.image.proofs.Rounds.{Good, Stored, stored, taken, sound-saved, sound-cleared, saved-restored, restored-good}
+use Rattle.image.proofs.Rounds.{Good, Stored, stored, taken, sound-saved, sound-cleared, saved-restored, restored-saved, restored-good}
+use Rattle.image.proofs.Again.{kept}
 use Rattle.image.proofs.Fresh.{fresh-saved}
 use Rattle.image.proofs.Verdicts.{unsaved-leaves, refused-leaves}
 use Rattle.reader.specs.Refusals.{standing}
@@ -50,6 +53,7 @@ use Rattle.demands.specs.Same.{SameReader}
 use Rattle.demands.specs.Sound.{begin, SoundSession, Ours}
 use Rattle.demands.proofs.Bytes.{bytes-none, spaces-bytes}
 use Rattle.demands.proofs.Kept.{Kept, kept-ours, ours-within}
+use Rattle.demands.proofs.View.{sessionIn, session-of}
 use Rattle.demands.proofs.Equal.{same-readers}
 
 -- ---- DEMAND 1, of saving: a refusal writes nothing, a success exactly the stated length
@@ -130,12 +134,17 @@ came-name : (h : Header) → Bytes (h .session) → (k : Bool) → h .known ≡ 
 came-name h b true k = rw k b
 came-name h b false k = rw k (spaces-bytes 10)
 
-came-sound : (h : Header) (mem : List ℕ) → Good h mem → Bytes (h .session) → SoundSession (sessionOf (lineOf h) (h .board) mem)
+came-ten : (h : Header) → length (h .session) ≡ 10 → (k : Bool) → h .known ≡ k → length (lineOf h .session) ≡ 10
+came-ten h l true k = rw k l
+came-ten h l false k = rw k
+
+came-sound : (h : Header) (mem : List ℕ) → Good h mem → Bytes (h .session) → length (h .session) ≡ 10 → SoundSession (sessionOf (lineOf h) (h .board) mem)
 unfolding headerKeeps
-came-sound h mem g b =
+came-sound h mem g b l =
     record {
       range = came-range h (g .next) (h .known) refl;
       name = came-name h b (h .known) refl;
+      ten = came-ten h l (h .known) refl;
       about = record { rows = g .sound; board = both-left (boardKeeps (h .board)) _ (g .header) };
       whose = came-whose h mem g (h .known) refl (both-right (boardKeeps (h .board)) (h .known || isFresh h) (g .header));
     }
@@ -154,6 +163,13 @@ module _ (bytes t : List ℕ) (q : Restored) (t₁ : List ℕ) (h : Restores byt
       let o = restoreOf bytes t in
       rw (taken bytes t (o .memory) (o .answer .header) accepted-is .1) (part-bytes bytes 14 10 b)
 
+  header-ten : length (restoreOf bytes t .answer .header .session) ≡ 10
+  unfolding headers.headerOf
+  header-ten =
+      let o = restoreOf bytes t in
+      let g = taken bytes t (o .memory) (o .answer .header) accepted-is in
+      rw (g .1) (part-length bytes 14 10 (omega (arith, kept bytes (g .0) .size .some)))
+
   -- THEOREM: a reader that was restored from bytes without refusal, and its table, are as our own calls make them
   pub restore-ours : Bytes bytes → Ours (q .reader) t₁
   unfolding restoreAll frame standing
@@ -162,44 +178,25 @@ module _ (bytes t : List ℕ) (q : Restored) (t₁ : List ℕ) (h : Restores byt
       let k : Kept (live (sessionOf (lineOf (o .answer .header)) (o .answer .header .board) (o .memory)) [])
       = record {
         sound =
-            came-sound (o .answer .header) (o .memory) (restored-good bytes t (o .memory) (o .answer .header) accepted-is) (header-name b);
+            came-sound (o .answer .header) (o .memory) (restored-good bytes t (o .memory) (o .answer .header) accepted-is) (header-name b) header-ten;
         stands = refl;
         short = refl;
         bytes = bytes-none;
       } in
       kept-ours (q .reader) t₁ (subst Kept (sym (came-state bytes t q t₁ h)) k) (omega (arith, ap (λ (c : Came). c .used) h))
 
--- ---- WHAT IS OURS IS SAVED, AND COMES BACK
+-- ---- WHAT IS OURS IS SAVED
 
-module _ (r : Reader) (t : List ℕ) (o : Ours r t) (known : r .line .known ≡ true) (out : List ℕ) (room : sizeFor (r .board .rows) ≤ length out)
-    (a : Saved) (z : List ℕ) (h : Saves r t out a z) where
-  in-range : numberInRange (r .line .next) ≡ true
-  in-range = rw (le-leb 1 (r .line .next) (o .sound .range .some), le-leb (r .line .next) highestNumber (o .sound .range .most))
+next-in-range : (r : Reader) (t : List ℕ) → Ours r t → numberInRange (r .line .next) ≡ true
+next-in-range r t o = rw (le-leb 1 (r .line .next) (o .sound .range .some), le-leb (r .line .next) highestNumber (o .sound .range .most))
 
-  saved-is : saveOf (headerOf r) t out ≡ saving (Whole (sizeFor (r .board .rows))) (overlay out 0 (imageOf (headerOf r) t))
-  saved-is = sound-saved (headerOf r) t (o .sound .about .rows) in-range (o .sound .about .board) known out room
-
-  -- with a known session, saving what is ours is not refused where the output is long enough
-  pub known-saved : a ≡ Whole (sizeFor (r .board .rows))
-  known-saved = ap (λ (s : Saving). s .answer) (sym (saves-is r t out a z h (ours-within r t o)) ∙ saved-is)
-
-  -- THEOREM: restoring it is not refused, and gives the same table and the session, which waits for its login
-  pub saved-comes-back : length (r .line .session) ≡ 10 → (t₀ : List ℕ) → length t₀ ≡ tableSize → (q : Restored) (t₁ : List ℕ)
-      → Restores (part z 0 (sizeFor (r .board .rows))) t₀ q t₁
-      → (q .verdict ≡ verdict.Accepted) × (stateOf (q .reader) t₁ ≡ live (restored (sessionOf (r .line) (r .board) t)) [])
-  unfolding restoreAll
-  saved-comes-back ten t₀ l q t₁ g =
-      let n = sizeFor (r .board .rows) in
-      let whole : saveOf (headerOf r) t out ≡ saving (Whole n) z
-      = saves-is r t out a z h (ours-within r t o) ∙ ap (λ (b : Saved). saving b z) known-saved in
-      let back : restoreOf (part z 0 n) t₀ ≡ restoring (images.restored verdict.Accepted (headerOf r)) t
-      = saved-restored (headerOf r) t out t₀ z n ten l whole
-      ∙ ap (restoring (images.restored verdict.Accepted (headerOf r)))
-      (sound-cleared (headerOf r) t (o .sound .about .rows) in-range (o .sound .about .board) known) in
-      let c : Restores (part z 0 n) t₀ q t₁ = g in (
-        ap (λ (x : Came). x .verdict) g ∙ ap (λ (x : Restoring). x .answer .verdict) back,
-        ap (λ (x : Came). x .state) g ∙ rw (back, known),
-      )
+-- with a known session
+known-saves : (r : Reader) (t : List ℕ) (o : Ours r t) → r .line .known ≡ true → (out : List ℕ) → sizeFor (r .board .rows) ≤ length out
+    → (a : Saved) (z : List ℕ) → Saves r t out a z → a ≡ Whole (sizeFor (r .board .rows))
+known-saves r t o known out room a z h =
+    ap (λ (s : Saving). s .answer)
+    (sym (saves-is r t out a z h (ours-within r t o))
+    ∙ sound-saved (headerOf r) t (o .sound .about .rows) (next-in-range r t o) (o .sound .about .board) known out room)
 
 -- a reader to which nothing has happened is saved as one block
 fresh-saves : (r : Reader) (t : List ℕ) → Ours r t → sessionOf (r .line) (r .board) t ≡ begin → (out : List ℕ) → sizeFor (r .board .rows) ≤ length out
@@ -222,5 +219,73 @@ pub ours-saved : (r : Reader) (t : List ℕ) → Ours r t → (out : List ℕ) �
 ours-saved r t o out room a z h = by (o .sound .whose)
   where
     by : (r .line .known ≡ true) ⊎ (sessionOf (r .line) (r .board) t ≡ begin) → a ≡ Whole (sizeFor (r .board .rows))
-    by (inl k) = known-saved r t o k out room a z h
+    by (inl k) = known-saves r t o k out room a z h
     by (inr e) = fresh-saves r t o e out room a z h
+
+-- ---- DEMAND 2, OF SAVED TABLES, by the reader's own calls
+
+-- what is ours comes back whole: nothing but zeros stands past its rows
+ours-cleared : (r : Reader) (t : List ℕ) → Ours r t → cleared (r .board .rows) t ≡ t
+ours-cleared r t o =
+    let known : Header = record { session = r .line .session; known = true; next = r .line .next; board = r .board } in
+    sound-cleared known t (o .sound .about .rows) (next-in-range r t o) (o .sound .about .board) refl
+
+module _ (r : Reader) (t : List ℕ) (o : Ours r t) (out : List ℕ) (room : sizeFor (r .board .rows) ≤ length out)
+    (a : Saved) (z : List ℕ) (h : Saves r t out a z) where
+  -- THEOREM: SAVE, THEN RESTORE. From any handle of ours it is not refused; it gives the same table, and a reader that waits for a login to the
+  -- session, or a fresh one where no session is known.
+  pub comes-back : (t₀ : List ℕ) → length t₀ ≡ tableSize → (q : Restored) (t₁ : List ℕ) → Restores (part z 0 (sizeFor (r .board .rows))) t₀ q t₁
+      → (q .verdict ≡ verdict.Accepted) × (stateOf (q .reader) t₁ ≡ live (sessionOf (lineOf (headerOf r)) (r .board) t) [])
+  unfolding restoreAll
+  comes-back t₀ l q t₁ g =
+      let n = sizeFor (r .board .rows) in
+      let whole : saveOf (headerOf r) t out ≡ saving (Whole n) z
+      = saves-is r t out a z h (ours-within r t o) ∙ ap (λ (b : Saved). saving b z) (ours-saved r t o out room a z h) in
+      let back : restoreOf (part z 0 n) t₀ ≡ restoring (images.restored verdict.Accepted (headerOf r)) t
+      = saved-restored (headerOf r) t out t₀ z n (o .sound .ten) l whole
+      ∙ ap (restoring (images.restored verdict.Accepted (headerOf r))) (ours-cleared r t o) in (
+        ap (λ (x : Came). x .verdict) g ∙ ap (λ (x : Restoring). x .answer .verdict) back,
+        ap (λ (x : Came). x .state) g ∙ ap (λ (x : Restoring). live (sessionOf (lineOf (x .answer .header)) (x .answer .header .board) (x .memory)) []) back,
+      )
+
+-- the header that is saved of a line and a board
+abbrev headed : Line → Board → Header
+headed l b = record { session = l .session; known = l .known; next = l .next; board = b }
+
+-- the line of a header says what the header said
+line-back : (h : Header) → length (h .session) ≡ 10 → (k : Bool) → h .known ≡ k → k || isFresh h ≡ true → headed (lineOf h) (h .board) ≡ h
+unfolding isFresh
+line-back h l true k e = rw k
+line-back h l false k e =
+    let b = both-right (every isSpace (h .session)) _ e in
+    let session : replicate 10 32 ≡ h .session
+    = ap (λ (n : ℕ). replicate n 32) (sym l) ∙ sym (spaces-are (h .session) (both-left (every isSpace (h .session)) _ e)) in
+    let next : 1 ≡ h .next = sym (eqb-true (h .next) 1 (both-left (eqb (h .next) 1) _ b)) in
+    rw k (λ i. record { session = session i; known = false; next = next i; board = h .board })
+
+module _ (bytes t : List ℕ) (q : Restored) (t₁ : List ℕ) (h : Restores bytes t q t₁) (v : q .verdict ≡ verdict.Accepted) (b : Bytes bytes) where
+  abbrev header : Header
+  header = restoreOf bytes t .answer .header
+
+  came-back : sessionOf (q .reader .line) (q .reader .board) t₁ ≡ sessionOf (lineOf header) (header .board) (restoreOf bytes t .memory)
+  unfolding restoreAll
+  came-back = sym (session-of (q .reader) t₁) ∙ ap sessionIn (came-state bytes t q t₁ h)
+
+  header-back : headerOf (q .reader) ≡ header
+  unfolding headerKeeps
+  header-back =
+      let g = restored-good bytes t (restoreOf bytes t .memory) header (accepted-is bytes t q t₁ h v) in
+      ap (λ (s : Session Table). headed (s .line) (s .about .board)) came-back
+      ∙ line-back header (header-ten bytes t q t₁ h v) (header .known) refl (both-right (boardKeeps (header .board)) (header .known || isFresh header) (g .header))
+
+  -- THEOREM: RESTORE, THEN SAVE. The bytes are those of the image, for every image that was not refused, of a known session or of none.
+  pub goes-back : (out : List ℕ) → length bytes ≤ length out → (a : Saved) (z : List ℕ) → Saves (q .reader) t₁ out a z
+      → (a ≡ Whole (length bytes)) × (z ≡ overlay out 0 bytes)
+  goes-back out room a z s =
+      let o = restore-ours bytes t q t₁ h v b in
+      let same : saveOf (headerOf (q .reader)) t₁ out ≡ saving (Whole (length bytes)) (overlay out 0 bytes)
+      = ap (λ (x : Header). saveOf x t₁ out) header-back
+      ∙ ap (λ (x : Session Table). saveOf header (x .about .memory) out) came-back
+      ∙ restored-saved bytes t out (restoreOf bytes t .memory) header b (accepted-is bytes t q t₁ h v) room in
+      let e : saving a z ≡ saving (Whole (length bytes)) (overlay out 0 bytes) = sym (saves-is (q .reader) t₁ out a z s (ours-within (q .reader) t₁ o)) ∙ same in
+      (ap (λ (x : Saving). x .answer) e, ap (λ (x : Saving). x .out) e)

@@ -5,7 +5,7 @@ use mathlib.Core.Path.{_≡_}
 use mathlib.Core.Bool.{true}
 use mathlib.Core.Logic.{_⊎_}
 use mathlib.Core.List.{List}
-use lib.ListN.{replicate}
+use lib.ListN.{length, replicate}
 use Rattle.field.specs.Bytes.{Bytes}
 use Rattle.packet.specs.Frame.{short, frame, heldSize}
 use Rattle.packet.specs.Line.{freshLine, InRange}
@@ -27,10 +27,11 @@ pub record SoundTable (t : Table) : Type 0 where
 abbrev pub begin : Session Table
 begin = sessionOf freshLine freshBoard (replicate tableSize 0)
 
--- the next number is in range; the session's name is bytes; the table is sound; and where no session is known, nothing has happened
+-- the next number is in range; the session's name is ten bytes; the table is sound; and where no session is known, nothing has happened
 pub record SoundSession (s : Session Table) : Type 0 where
   pub range : InRange (s .line)
   pub name : Bytes (s .line .session)
+  pub ten : length (s .line .session) ≡ 10
   pub about : SoundTable (s .about)
   pub whose : (s .line .known ≡ true) ⊎ (s ≡ begin)
 
