@@ -27,10 +27,10 @@ module _ (L : ℕ) (bs : List ℕ) where
   unfolding framed
   framed-bad e = rw e
 
-  framed-low : L < 1 → framed L bs ≡ badLength bs
+  pub framed-low : L < 1 → framed L bs ≡ badLength bs
   framed-low h = framed-bad (rw (lt-leb 1 L h))
 
-  framed-high : 1 ≤ L → longestPacket < L → framed L bs ≡ badLength bs
+  pub framed-high : 1 ≤ L → longestPacket < L → framed L bs ≡ badLength bs
   framed-high h k = framed-bad (rw (le-leb 1 L h, lt-leb L longestPacket k))
 
   module _ (low : 1 ≤ L) (high : L ≤ longestPacket) where
@@ -42,7 +42,7 @@ module _ (L : ℕ) (bs : List ℕ) where
     unfolding framed
     framed-whole h = simp (le-leb 1 L low, le-leb L longestPacket high, le-leb L (length bs) h)
 
-  ways : Way L bs (framed L bs)
+  pub ways : Way L bs (framed L bs)
   ways = low (leb 1 L) refl
     where
       fits : 1 ≤ L → L ≤ longestPacket → (t : Bool) → leb L (length bs) ≡ t → Way L bs (framed L bs)

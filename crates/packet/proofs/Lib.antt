@@ -6,6 +6,7 @@ pub mod Step
 pub mod Seen
 pub mod Mend
 pub mod Known
+pub mod Verdicts
 pub mod Keep
 pub mod Numbers
 pub mod Refused

@@ -143,6 +143,18 @@ module _ {S E : Type 0} (judge : S → ℕ → List ℕ → Verdict S E) where
   taken-least s held piece k h =
       reading-at judge s (held ++ take k piece) (framed-least s held piece k (frame (held ++ piece)) refl h)
 
+  -- IT GETS ON: a live reader that is given a byte takes one at least
+  framed-more : (s : S) (held piece : List ℕ) (f : Framed) → frame held ≡ short → frame (held ++ piece) ≡ f → 1 ≤ length piece
+      → 1 ≤ stepFramed judge s held piece f .taken
+  framed-more s held piece short fine e h = h
+  framed-more s held piece (badLength r) fine e h = omega (arith, frame-ends held piece fine e tt)
+  framed-more s held piece (packet l b r) fine e h =
+      rw (judged-takes (length piece - length r) (judge s l b)) (omega (arith, frame-ends held piece fine e tt))
+
+  pub gets-on : (s : S) (held piece : List ℕ) → frame held ≡ short → 1 ≤ length piece → 1 ≤ stepOf judge (live s held) piece .taken
+  unfolding stepOf
+  gets-on s held piece fine h = framed-more s held piece (frame (held ++ piece)) fine refl h
+
   pub step-unfinished : (st : State S) (piece : List ℕ) → Unfinished st → Unfinished (stepOf judge st piece .state)
   step-unfinished st piece fine =
       rw (ap (λ (r : Run S E). r .state) (step-taken st piece fine)) at (reading-unfinished judge st (take (stepOf judge st piece .taken) piece))
