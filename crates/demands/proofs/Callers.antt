@@ -4,7 +4,7 @@ use mathlib.Core.Path.{_≡_, refl, sym, ap, _∙_, subst}
 use mathlib.Core.Logic.{inr}
 use mathlib.Core.List.{List, [], _++_}
 use mathlib.Core.Bool.{Bool, true, false, cond}
-use Prim.Native.Nat.{ℕ}
+use Prim.Native.Nat.{ℕ, _≤_}
 use native.Mathlib.Omega.{arith}
 use borrow.Author.Tests.{eqb-true, eq-eqb}
 use lib.Dec.{eqb}
@@ -13,8 +13,9 @@ use Rattle.field.specs.Bytes.{Bytes}
 use Rattle.message.specs.Letters.{listed}
 use Rattle.packet.specs.Frame.{short, frame}
 use Rattle.packet.specs.Stream as stream
-use Rattle.packet.specs.Stream.{State, live, Unfinished, NothingLeft, reading, eventsOf, Called}
+use Rattle.packet.specs.Stream.{State, live, Unfinished, NothingLeft, reading, eventsOf, Called, stepOf}
 use Rattle.packet.specs.Session.{Session, Event, soupBinTCP}
+use Rattle.packet.proofs.Step as packet-steps
 use Rattle.packet.proofs.Step.{any-caller}
 use Rattle.table.specs.Memory.{tableSize}
 use Rattle.table.specs.Board.{Outcome, accepted, refused, freshBoard, startOf}
@@ -23,8 +24,8 @@ use Rattle.table.specs.declared.Refusal.the-variants.{Misfit}
 use Rattle.table.proofs.Kept.{start-sound}
 use Rattle.reader.specs.Refusals.{standing}
 use Rattle.reader.specs.Deliver.{Table, Said, deliver}
-use Rattle.reader.specs.View.{stateOf, Seen, heldIn}
-use Rattle.reader.specs.Calls.{Begun, begunOf, freshOn, verdictNumber, startNumber, startAll, Starting}
+use Rattle.reader.specs.View.{sessionOf, heldOf, stateOf, Seen, heldIn}
+use Rattle.reader.specs.Calls.{Begun, begunOf, freshOn, verdictNumber, startNumber, startAll, Starting, Stepping}
 use Rattle.reader.specs.declared.StartAnswer.the-variants.{Ready}
 use Rattle.reader.specs.declared.Reader.{Reader}
 use Rattle.reader.specs.declared.Stepped.{Stepped}
@@ -73,6 +74,16 @@ pub steps-read : {r r′ : Reader} {t bs t′ left : List ℕ} {es : List (Event
     → NothingLeft (stateOf r′ t′) left → reading (soupBinTCP deliver) (stateOf r t) bs ≡ record { events = es; state = stateOf r′ t′ }
 steps-read {r = r} {t = t} c o b none =
     any-caller (soupBinTCP deliver) (steps-called c o b) (unfinished-in r t o) none
+
+-- THEOREM: IT GETS ON. A reader of ours that has neither ended nor refused takes at least one byte of a piece that is not empty.
+pub gets-on : (r : Reader) (t piece : List ℕ) (s : Stepped) (t′ : List ℕ) → Ours r t → (r .refusal ≡ 0) × (r .ended ≡ false) → 1 ≤ length piece
+    → Stepping r t piece s t′ → 1 ≤ s .taken
+gets-on r t piece s t′ o alive h c =
+    let st : stateOf r t ≡ live (sessionOf (r .line) (r .board) t) (heldOf r) = rw (alive .0, alive .1) in
+    let e : s .taken ≡ stepOf (soupBinTCP deliver) (live (sessionOf (r .line) (r .board) t) (heldOf r)) piece .taken
+    = ap (λ (q : Seen). q .step .taken) (stepping-is r t piece s t′ (ours-within r t o) c)
+    ∙ ap (λ (x : State (Session Table)). stepOf (soupBinTCP deliver) x piece .taken) st in
+    rw e (packet-steps.gets-on (soupBinTCP deliver) (sessionOf (r .line) (r .board) t) (heldOf r) piece (o .short) h)
 
 -- ---- from the start
 

@@ -1,9 +1,14 @@
 -- The small set of document 01 is answered as its table says, by computing.
 -- Assumes nothing.
 use mathlib.Core.Path.{_≡_, refl}
+use mathlib.Core.Bool.{true}
 use mathlib.Core.List.{List, map}
 use Prim.Native.Nat.{ℕ}
-use Rattle.field.specs.Bytes.{part, value, digits}
+use borrow.Author.Tests.{eq-eqb}
+use lib.Dec.{eqb}
+use lib.ListN.{length}
+use Rattle.field.specs.Bytes.{part, overlay, value, digits}
+use Rattle.field.specs.Text.{every}
 use Rattle.message.specs.Layout.{values, keepsAll}
 use Rattle.message.specs.Letters.{listed, letters, letterIn}
 use Rattle.message.specs.Message.{readFields, readAs, readOf}
@@ -12,14 +17,24 @@ use Rattle.packet.specs.Stream.{stepOf}
 use Rattle.packet.specs.Table.{packetTable, entryOf}
 use Rattle.packet.specs.Line.{packetOf}
 use Rattle.packet.specs.Session.{soupBinTCP}
+use Rattle.table.specs.Memory.{tableSize}
+use Rattle.table.specs.Board.{fits}
+use Rattle.table.specs.Rules.{boardKeeps, rowsKeep}
+use Rattle.reader.specs.Refusals.{standing}
 use Rattle.reader.specs.Deliver.{deliver}
+use Rattle.reader.specs.Limits.{unfinished, holdsUnfinished, withinLimits}
+use Rattle.reader.specs.Calls.{stepAll}
+use Rattle.reader.specs.Saving.{saveAll}
 use Rattle.block.specs.Block.{weighted, checkOf, headBytes, sealed, blockOf}
 use Rattle.image.specs.Shape.{pagesFor, blocksFor, versionFor, headFor}
-use Rattle.image.specs.Header.{sessionBytes, boardBytes, firstBody}
-use Rattle.image.specs.Save.{bodyOf, savedBlock, blocks, imageOf}
+use Rattle.image.specs.Header as headers
+use Rattle.image.specs.Header.{sessionBytes, boardBytes, firstBody, headerKeeps, isFresh}
+use Rattle.image.specs.Save.{bodyOf, savedBlock, blocks, imageOf, sizeFor, saveOf}
 use Rattle.demands.specs.Cases.{calls, answered, Case, smallSet}
 
--- THEOREM: C1 to C12
-pub small-set : (t : List ℕ) → map (λ (c : Case). answered t (c .question)) smallSet ≡ map (λ (c : Case). c .answer) smallSet
-unfolding calls stepOf frame framed value soupBinTCP packetOf entryOf packetTable deliver readOf readAs readFields letters letterIn values keepsAll listed part digits weighted checkOf headBytes sealed blockOf pagesFor blocksFor versionFor headFor sessionBytes boardBytes firstBody bodyOf savedBlock blocks imageOf
-small-set t = refl
+-- THEOREM: C1 to C12, with table memory of the right length
+pub small-set : (t : List ℕ) → length t ≡ tableSize → map (λ (c : Case). answered t (c .question)) smallSet ≡ map (λ (c : Case). c .answer) smallSet
+unfolding calls stepAll withinLimits fits holdsUnfinished unfinished standing stepOf frame framed value soupBinTCP packetOf entryOf packetTable deliver readOf readAs readFields letters letterIn values keepsAll listed part digits saveAll headers.withinLimits saveOf headerKeeps isFresh every boardKeeps rowsKeep sizeFor weighted checkOf headBytes sealed blockOf pagesFor blocksFor versionFor headFor sessionBytes boardBytes firstBody bodyOf savedBlock blocks imageOf overlay
+small-set t long =
+    let e : eqb (length t) tableSize ≡ true = eq-eqb (length t) tableSize long in
+    rw e (rw e)

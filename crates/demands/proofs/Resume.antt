@@ -10,7 +10,7 @@ use lib.ListN.{length}
 use Rattle.field.specs.Bytes.{part, Bytes}
 use Rattle.packet.specs.Frame.{frame}
 use Rattle.packet.specs.Stream.{State, live, NothingLeft, Run, first, _then_, reading}
-use Rattle.packet.specs.Line.{LoggedIn}
+use Rattle.packet.specs.Line.{InRange, LoggedIn}
 use Rattle.packet.specs.Session.{Session, Event, login, soupBinTCP, anyLogin, loginPacket, restored}
 use Rattle.packet.proofs.Cut.{reading-cut}
 use Rattle.packet.proofs.Keep.{login-told, session-keeps, logged-stays, StateHas}
@@ -27,7 +27,7 @@ use Rattle.reader.specs.Saving.{Saves, Came, restoreAll, Restores}
 use Rattle.reader.specs.declared.Reader.{Reader}
 use Rattle.reader.specs.declared.Restored.{Restored}
 use Rattle.demands.specs.Callers.{Steps}
-use Rattle.demands.specs.Sound.{Ours}
+use Rattle.demands.specs.Sound.{SoundSession, Ours}
 use Rattle.demands.specs.Stopped.{StoppedAt, GoesOn}
 use Rattle.demands.proofs.Bytes.{bytes-none, bytes-append, bytes-right, login-bytes}
 use Rattle.demands.proofs.View.{sessionIn, refusalIn, session-of, refusal-of}
@@ -38,6 +38,69 @@ use Rattle.demands.proofs.Stopped.{Took, called-took, stopped-at}
 
 abbrev ran : List (Event Said) → State (Session Table) → Run (Session Table) (Event Said)
 ran es st = record { events = es; state = st }
+
+-- ---- over the readings: what is read after a login to a restored session, and what is read without a stop
+
+module _ (s₀ : Session Table) (held bs : List ℕ) (es : List (Event Said)) (s : Session Table) (at : StoppedAt s₀ held bs es s) where
+  -- the line is logged in, if it was before or a login was told
+  pub stopped-logged : LoggedIn (s₀ .line) ⊎ (anyLogin es ≡ true) → LoggedIn (s .line)
+  stopped-logged (inl l) =
+      subst (StateHas (λ (x : Session Table). LoggedIn (x .line)) (λ _. Unit))
+      (ap (λ (x : Run (Session Table) (Event Said)). x .state) (at .told))
+      (session-keeps deliver (logged-stays deliver) (live s₀ []) (at .accepted) l)
+  stopped-logged (inr e) = login-told deliver s₀ [] (at .accepted) (at .told) e
+
+  -- what a restored reader is given are bytes
+  pub given-bytes : Bytes held → Bytes bs → Bytes (s .line .session) → Bytes (loginPacket (s .line .session) (s .line .next) ++ at .following)
+  given-bytes h b name =
+      bytes-append (loginPacket (s .line .session) (s .line .next)) (at .following) (login-bytes (s .line .session) (s .line .next) name)
+      (bytes-right (at .accepted) (at .following) (subst Bytes (sym (at .whole)) (bytes-append held bs h b)))
+
+  -- THEOREM
+  pub resumed : InRange (s .line) → LoggedIn (s .line) → (es₁ : List (Event Said)) (r₁ : Reader) (t₁ : List ℕ)
+      → reading (soupBinTCP deliver) (live (restored s) []) (loginPacket (s .line .session) (s .line .next) ++ at .following) ≡ ran es₁ (stateOf r₁ t₁)
+      → (es₂ : List (Event Said)) (r₂ : Reader) (t₂ : List ℕ) → reading (soupBinTCP deliver) (live s₀ held) bs ≡ ran es₂ (stateOf r₂ t₂)
+      → GoesOn s es es₁ es₂ r₁ t₁ r₂ t₂
+  unfolding reading
+  resumed range logged es₁ r₁ t₁ after es₂ r₂ t₂ never =
+      let j = soupBinTCP deliver in
+      let rest : Run (Session Table) (Event Said) = reading j (live s []) (at .following) in
+      let one : ran es₁ (stateOf r₁ t₁) ≡ first (login (s .line .next) (s .line .session)) rest
+      = sym after ∙ resume deliver s range logged (at .following) in
+      let two : ran es₂ (stateOf r₂ t₂) ≡ ran (es ++ rest .events) (rest .state)
+      = sym never
+      ∙ ap (λ (xs : List ℕ). reading j (live s₀ []) xs) (sym (at .whole))
+      ∙ reading-cut j (live s₀ []) (at .accepted) (at .following)
+      ∙ ap (λ (x : Run (Session Table) (Event Said)). x then (λ st. reading j st (at .following))) (at .told) in
+      let same : stateOf r₁ t₁ ≡ stateOf r₂ t₂
+      = ap (λ (x : Run (Session Table) (Event Said)). x .state) one ∙ sym (ap (λ (x : Run (Session Table) (Event Said)). x .state) two) in
+      record {
+        later = rest .events;
+        stopped = ap (λ (x : Run (Session Table) (Event Said)). x .events) one;
+        unstopped = ap (λ (x : Run (Session Table) (Event Said)). x .events) two;
+        state = same;
+        table = ap (λ (x : Session Table). x .about .memory) (sym (session-of r₁ t₁) ∙ ap sessionIn same ∙ session-of r₂ t₂);
+        refusal = sym (refusal-of r₁ t₁) ∙ ap refusalIn same ∙ refusal-of r₂ t₂;
+      }
+
+-- a session of ours that was saved and restored is one of ours
+pub restored-kept : (s : Session Table) → SoundSession s → Kept (live (restored s) [])
+unfolding frame standing
+restored-kept s h =
+    record {
+      sound = record {
+        range = record { some = h .range .some; most = h .range .most };
+        name = h .name;
+        ten = h .ten;
+        about = h .about;
+        whose = inl refl;
+      };
+      stands = refl;
+      short = refl;
+      bytes = bytes-none;
+    }
+
+-- ---- by the calls
 
 -- A reader that our own calls made, and that has neither ended nor refused, is stepped with bytes. It is logged in, or a login is among them, and it is
 -- stopped before any end.
@@ -65,14 +128,7 @@ module _ (r₀ : Reader) (t₀ : List ℕ) (o₀ : Ours r₀ t₀) (open₀ : (r
   ours = steps-ours before o₀ bytes
 
   is-logged-in : LoggedIn (r .line)
-  is-logged-in = by logged
-    where
-      by : LoggedIn (r₀ .line) ⊎ (anyLogin es ≡ true) → LoggedIn (r .line)
-      by (inl l) =
-          subst (StateHas (λ (s : Session Table). LoggedIn (s .line)) (λ _. Unit))
-          (ap (λ (x : Run (Session Table) (Event Said)). x .state) (stopped .told))
-          (session-keeps deliver (logged-stays deliver) (live session₀ []) (stopped .accepted) l)
-      by (inr e) = login-told deliver session₀ [] (stopped .accepted) (stopped .told) e
+  is-logged-in = stopped-logged session₀ (heldOf r₀) bs es session stopped logged
 
   -- it is saved to an output that is long enough, and restored from it to memory of the right length
   module _ (out : List ℕ) (room : sizeFor (r .board .rows) ≤ length out) (a : Saved) (z : List ℕ) (save : Saves r t out a z)
@@ -89,22 +145,9 @@ module _ (r₀ : Reader) (t₀ : List ℕ) (o₀ : Ours r₀ t₀) (open₀ : (r
 
     -- THEOREM: the restored reader is again one that our own calls made, so that it may be stopped again
     pub restored-ours : Ours (q .reader) m′
-    unfolding frame standing restoreAll
+    unfolding restoreAll
     restored-ours =
-        let k : Kept (live (restored session) [])
-        = record {
-          sound = record {
-            range = record { some = ours .sound .range .some; most = ours .sound .range .most };
-            name = ours .sound .name;
-            ten = ours .sound .ten;
-            about = ours .sound .about;
-            whose = inl refl;
-          };
-          stands = refl;
-          short = refl;
-          bytes = bytes-none;
-        } in
-        kept-ours (q .reader) m′ (subst Kept (sym (back .1)) k) (omega (arith, ap (λ (c : Came). c .used) restore))
+        kept-ours (q .reader) m′ (subst Kept (sym (back .1)) (restored-kept session (ours .sound))) (omega (arith, ap (λ (c : Came). c .used) restore))
 
     -- THEOREM: the restored reader is given a login for the saved session and number, and then the bytes that follow the last accepted packet. Its
     -- later events, the table and any refusal are those of the run that never stopped.
@@ -113,32 +156,9 @@ module _ (r₀ : Reader) (t₀ : List ℕ) (o₀ : Ours r₀ t₀) (open₀ : (r
         → (es₂ : List (Event Said)) (r₂ : Reader) (t₂ left₂ : List ℕ)
         → Steps r₀ t₀ bs es₂ r₂ t₂ left₂ → NothingLeft (stateOf r₂ t₂) left₂
         → GoesOn session es es₁ es₂ r₁ t₁ r₂ t₂
-    unfolding reading
     goes-on s es₁ r₁ t₁ left₁ after none₁ es₂ r₂ t₂ left₂ never none₂ =
         let j = soupBinTCP deliver in
-        let l : List ℕ = loginPacket (r .line .session) (r .line .next) in
-        let following : Bytes (s .following)
-        = bytes-right (s .accepted) (s .following) (subst Bytes (sym (s .whole)) (bytes-append (heldOf r₀) bs (o₀ .bytes) bytes)) in
-        let given : Bytes (l ++ s .following)
-        = bytes-append l (s .following) (login-bytes (r .line .session) (r .line .next) (ours .sound .name)) following in
-        let rest : Run (Session Table) (Event Said) = reading j (live session []) (s .following) in
-        let one : ran es₁ (stateOf r₁ t₁) ≡ first (login (r .line .next) (r .line .session)) rest
-        = sym (steps-read after restored-ours given none₁)
-        ∙ ap (λ (st : State (Session Table)). reading j st (l ++ s .following)) (back .1)
-        ∙ resume deliver session (ours .sound .range) is-logged-in (s .following) in
-        let two : ran es₂ (stateOf r₂ t₂) ≡ ran (es ++ rest .events) (rest .state)
-        = sym (steps-read never o₀ bytes none₂)
-        ∙ ap (λ (st : State (Session Table)). reading j st bs) begun
-        ∙ ap (λ (xs : List ℕ). reading j (live session₀ []) xs) (sym (s .whole))
-        ∙ reading-cut j (live session₀ []) (s .accepted) (s .following)
-        ∙ ap (λ (x : Run (Session Table) (Event Said)). x then (λ st. reading j st (s .following))) (s .told) in
-        let same : stateOf r₁ t₁ ≡ stateOf r₂ t₂
-        = ap (λ (x : Run (Session Table) (Event Said)). x .state) one ∙ sym (ap (λ (x : Run (Session Table) (Event Said)). x .state) two) in
-        record {
-          later = rest .events;
-          stopped = ap (λ (x : Run (Session Table) (Event Said)). x .events) one;
-          unstopped = ap (λ (x : Run (Session Table) (Event Said)). x .events) two;
-          state = same;
-          table = ap (λ (x : Session Table). x .about .memory) (sym (session-of r₁ t₁) ∙ ap sessionIn same ∙ session-of r₂ t₂);
-          refusal = sym (refusal-of r₁ t₁) ∙ ap refusalIn same ∙ refusal-of r₂ t₂;
-        }
+        let given = given-bytes session₀ (heldOf r₀) bs es session s (o₀ .bytes) bytes (ours .sound .name) in
+        resumed session₀ (heldOf r₀) bs es session s (ours .sound .range) is-logged-in
+        es₁ r₁ t₁ (ap (λ (st : State (Session Table)). reading j st (loginPacket (r .line .session) (r .line .next) ++ s .following)) (sym (back .1)) ∙ steps-read after restored-ours given none₁)
+        es₂ r₂ t₂ (ap (λ (st : State (Session Table)). reading j st bs) (sym begun) ∙ steps-read never o₀ bytes none₂)

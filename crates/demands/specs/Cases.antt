@@ -1,6 +1,7 @@
 -- The small set of document 01, C1 to C12: one table of questions with their answers.
 -- Assumes nothing.
-use Prim.Native.Nat.{ℕ, _/_}
+use Prim.Native.Nat.{ℕ, _-_, _/_}
+use mathlib.Core.Bool.{Bool, true, false}
 use mathlib.Core.List.{List, [], _∷_, _++_}
 use lib.ListN.{length, replicate}
 use Rattle.field.specs.Bytes.{part}
@@ -10,17 +11,23 @@ use Rattle.message.specs.declared.Message.the-variants as message
 use Rattle.message.specs.declared.Answer as answers
 use Rattle.message.specs.declared.Answer.the-variants as answer
 use Rattle.packet.specs.Stream as stream
-use Rattle.packet.specs.Stream.{State, live, Event, More, Refused, stepOf}
+use Rattle.packet.specs.Frame.{heldSize}
+use Rattle.packet.specs.Stream.{State, live, Event, More, Refused}
 use Rattle.packet.specs.Line.{freshLine, loggedIn}
 use Rattle.packet.specs.Session as packets
-use Rattle.packet.specs.Session.{Session, soupBinTCP}
+use Rattle.packet.specs.Session.{Session}
 use Rattle.row.specs.Changes.{widened}
 use Rattle.table.specs.Board.{freshBoard}
 use Rattle.block.specs.Block.{blockSize, checkedSize}
-use Rattle.image.specs.Save.{imageOf}
-use Rattle.reader.specs.Deliver.{Table, Said, deliver}
-use Rattle.reader.specs.View.{sessionOf, readyOf}
-use Rattle.reader.specs.Saving.{headerOf}
+use Rattle.image.specs.Save as images
+use Rattle.image.specs.Save.{Saving}
+use Rattle.image.specs.declared.Saved.{Saved}
+use Rattle.image.specs.declared.Saved.the-variants as saved
+use Rattle.reader.specs.Deliver.{Table, Said}
+use Rattle.reader.specs.View.{readyOf}
+use Rattle.reader.specs.Calls.{stepAll}
+use Rattle.reader.specs.Saving.{saveAll}
+use Rattle.reader.specs.declared.Reader.{Reader}
 
 -- ---- what is asked
 
@@ -50,11 +57,34 @@ takes n a = record { taken = n; answer = a }
 
 -- ---- how it is answered by the definitions that the promises cite
 
-unfoldable pub calls : State (Session Table) → List (List ℕ) → List Told
-calls st [] = []
-calls st (piece ∷ pieces) =
-    let s = stepOf (soupBinTCP deliver) st piece in
-    takes (s .taken) (s .answer) ∷ calls (s .state) pieces
+-- a reader in a state, with zeros past what it holds
+abbrev pub readerBy : Session Table → List ℕ → Bool → ℕ → Reader
+readerBy s held ended refusal =
+    record {
+      line = s .line;
+      board = s .about .board;
+      ended = ended;
+      refusal = refusal;
+      used = length held;
+      held = held ++ replicate (heldSize - length held) 0;
+    }
+
+abbrev pub readerIn : State (Session Table) → Reader
+readerIn (live s held) = readerBy s held false 0
+readerIn (stream.ended s held) = readerBy s held true 0
+readerIn (stream.refused s held e n) = readerBy s held e n
+
+abbrev pub memoryIn : State (Session Table) → List ℕ
+memoryIn (live s held) = s .about .memory
+memoryIn (stream.ended s held) = s .about .memory
+memoryIn (stream.refused s held e n) = s .about .memory
+
+-- a step with each piece, of the reader and the memory that the step before it left
+unfoldable pub calls : Reader → List ℕ → List (List ℕ) → List Told
+calls r memory [] = []
+calls r memory (piece ∷ pieces) =
+    let s = stepAll r memory piece .step in
+    takes (s .taken) (s .answer) ∷ calls (readerIn (s .state)) (memoryIn (s .state)) pieces
 
 abbrev pub timeIn : answers.Answer → ℕ
 timeIn (answer.Is (message.SystemEvent m)) = m .stamp .time
@@ -84,18 +114,23 @@ abbrev pub refusalIn : answers.Answer → ℕ
 refusalIn (answer.Is m) = 0
 refusalIn (answer.Refused r) = messages.refusalNumber r
 
--- the image of a fresh reader
-abbrev pub freshImageOf : List ℕ → List ℕ
-freshImageOf t = imageOf (headerOf (readyOf freshLine freshBoard)) t
+-- how many blocks were saved, and the check of the first; or the number of the refusal
+abbrev pub savedAs : Saved → List ℕ → Answer
+savedAs (saved.Whole n) out = blocks (n / blockSize) (part out checkedSize 2)
+savedAs (saved.Unsaved r) out = number (images.refusalNumber r)
 
--- with table memory that is not looked at
+-- a fresh reader saved to one block
+abbrev pub freshSaved : List ℕ → Saving
+freshSaved t = saveAll (readyOf freshLine freshBoard) t (replicate blockSize 0)
+
+-- with that table memory
 abbrev pub answered : List ℕ → Question → Answer
-answered t (fresh pieces) = told (calls (live (sessionOf freshLine freshBoard t) []) pieces)
-answered t (loggedOn pieces) = told (calls (live (sessionOf (loggedIn freshLine (replicate 10 65)) freshBoard t) []) pieces)
+answered t (fresh pieces) = told (calls (readyOf freshLine freshBoard) t pieces)
+answered t (loggedOn pieces) = told (calls (readyOf (loggedIn freshLine (replicate 10 65)) freshBoard) t pieces)
 answered t (time m) = number (timeIn (readOf m .answer))
 answered t (accepted m) = number (refusalIn (readOf m .answer))
 answered t (kept m) = number (priceIn (readOf m .answer))
-answered t freshImage = blocks (length (freshImageOf t) / blockSize) (part (freshImageOf t) checkedSize 2)
+answered t freshImage = savedAs (freshSaved t .answer) (freshSaved t .out)
 
 -- ---- messages around a field
 
