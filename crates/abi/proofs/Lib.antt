@@ -1,4 +1,3 @@
 pub mod Heads
 pub mod Ways
 pub mod Rounds
-pub mod Callers

@@ -90,6 +90,13 @@ restoredAs c = unheld (verdictNumber (c .verdict)) (c .state) (c .used)
 unfoldable pub restoreHost : List ℕ → List ℕ → List ℕ → Left
 restoreHost handle table image = cond (eqb (length handle) handleSize) (restoredAs (restoreAll image table)) (left 20 handle table)
 
+-- THE PROMISES OF STARTING AND RESTORING: what was lent, and then the answer and what was left
+abbrev pub HostStarts : List ℕ → List ℕ → ℕ → List ℕ → List ℕ → Type 0
+HostStarts handle table a handle′ table′ = left a handle′ table′ ≡ startHost handle table
+
+abbrev pub HostRestores : List ℕ → List ℕ → List ℕ → ℕ → List ℕ → List ℕ → Type 0
+HostRestores handle table image a handle′ table′ = left a handle′ table′ ≡ restoreHost handle table image
+
 -- the handle that they leave is the reader that they make
 abbrev pub StartsOn : List ℕ → List ℕ → List ℕ → List ℕ → Type 0
 StartsOn handle table handle′ table′ = length handle ≡ handleSize → stateOf (readerIn handle′) table′ ≡ startAll table .state
@@ -165,6 +172,10 @@ stepHost handle table piece event =
     (steppedAs (movedBy handle table piece) event)
     (hostStepped (told (stream.Refused 20) event .number) handle table event)
 
+-- THE PROMISE OF A STEP
+abbrev pub HostSteps : List ℕ → List ℕ → List ℕ → List ℕ → ℕ → List ℕ → List ℕ → List ℕ → Type 0
+HostSteps handle table piece event a handle′ table′ event′ = hostStepped a handle′ table′ event′ ≡ stepHost handle table piece event
+
 -- THE HANDLE GOES ON AS THE READER: what a step leaves of a handle is the reader that the step leaves, so that the calls of a host are
 -- those of the reader
 abbrev pub Follows : List ℕ → List ℕ → List ℕ → List ℕ → List ℕ → Type 0
@@ -187,6 +198,10 @@ savedAs s = answered (savedNumber (s .answer)) (s .out)
 -- 20 for bytes that are no handle
 unfoldable pub saveHost : List ℕ → List ℕ → List ℕ → Answered
 saveHost handle table out = cond (isHandle handle) (savedAs (saveAll (readerIn handle) table out)) (answered 20 out)
+
+-- THE PROMISE OF SAVING
+abbrev pub HostSaves : List ℕ → List ℕ → List ℕ → ℕ → List ℕ → Type 0
+HostSaves handle table out a out′ = answered a out′ ≡ saveHost handle table out
 
 -- the count has room
 abbrev pub SavedFits : Saved → Type 0

@@ -17,7 +17,7 @@ ghost use Rattle.table.specs.Memory.{tableSize};
 ghost use Rattle.handle.specs.Handle.{handleSize};
 ghost use Rattle.record.specs.Places.{recordSize};
 ghost use Rattle.record.specs.Record.{answered, readAnswer, writeAnswer};
-ghost use Rattle.abi.specs.Host.{left, readerIn, handleBytes, noHeld, verdictNumber, hostStepped, movedOf, movedBy, Follows, GoesOn, stepHost, startHost, StartsOn, restoreHost, RestoresOn, savedNumber, SavedFits, saveHost, endingOf, lineTo, textOf, lineHost};
+ghost use Rattle.abi.specs.Host.{readerIn, handleBytes, noHeld, verdictNumber, movedOf, movedBy, Follows, GoesOn, HostSteps, HostStarts, StartsOn, HostRestores, RestoresOn, savedNumber, SavedFits, HostSaves, endingOf, lineTo, textOf, lineHost};
 
 mod told;
 
@@ -57,7 +57,7 @@ fn put_unheld(h: Head, handle: &mut [u8])
 // Makes a handle fresh and fills the table with zeros.
 #[no_mangle]
 pub extern "C" fn nelqubat_start(handle: &mut [u8], table: &mut [u8]) -> u32
-    ensures { λ r. ⌜ left r (now (handle .exit)) (now (table .exit)) ≡ startHost (now (handle .entry)) (now (table .entry)) ⌝ }
+    ensures { λ r. ⌜ HostStarts (now (handle .entry)) (now (table .entry)) r (now (handle .exit)) (now (table .exit)) ⌝ }
     ensures { λ _. ⌜ StartsOn (now (handle .entry)) (now (table .entry)) (now (handle .exit)) (now (table .exit)) ⌝ }
 {
     if handle.len() != HANDLE_SIZE {
@@ -94,7 +94,7 @@ pub extern "C" fn nelqubat_step(
     piece: &[u8],
     event: &mut [u8],
 ) -> u32
-    ensures { λ r. ⌜ hostStepped r (now (handle .exit)) (now (table .exit)) (now (event .exit)) ≡ stepHost (now (handle .entry)) (now (table .entry)) (now (piece .entry)) (now (event .entry)) ⌝ }
+    ensures { λ r. ⌜ HostSteps (now (handle .entry)) (now (table .entry)) (now (piece .entry)) (now (event .entry)) r (now (handle .exit)) (now (table .exit)) (now (event .exit)) ⌝ }
     ensures { λ _. ⌜ GoesOn (now (handle .entry)) (now (table .entry)) (now (piece .entry)) (now (event .entry)) (now (handle .exit)) (now (table .exit)) ⌝ }
 {
     if event.len() != RECORD_SIZE {
@@ -133,7 +133,7 @@ fn saved_number(saved: Saved) -> u32
 // The image of the table to the front of `out`.
 #[no_mangle]
 pub extern "C" fn nelqubat_save(handle: &[u8], table: &[u8], out: &mut [u8]) -> u32
-    ensures { λ r. ⌜ answered r (now (out .exit)) ≡ saveHost (now (handle .entry)) (now (table .entry)) (now (out .entry)) ⌝ }
+    ensures { λ r. ⌜ HostSaves (now (handle .entry)) (now (table .entry)) (now (out .entry)) r (now (out .exit)) ⌝ }
 {
     if !handle::is_handle(handle) {
         return 20;
@@ -153,7 +153,7 @@ fn verdict_number(verdict: image::Verdict) -> u32
 // The handle and the table that an image holds.
 #[no_mangle]
 pub extern "C" fn nelqubat_restore(handle: &mut [u8], table: &mut [u8], saved: &[u8]) -> u32
-    ensures { λ r. ⌜ left r (now (handle .exit)) (now (table .exit)) ≡ restoreHost (now (handle .entry)) (now (table .entry)) (now (saved .entry)) ⌝ }
+    ensures { λ r. ⌜ HostRestores (now (handle .entry)) (now (table .entry)) (now (saved .entry)) r (now (handle .exit)) (now (table .exit)) ⌝ }
     ensures { λ _. ⌜ RestoresOn (now (handle .entry)) (now (table .entry)) (now (saved .entry)) (now (handle .exit)) (now (table .exit)) ⌝ }
 {
     if handle.len() != HANDLE_SIZE {

@@ -1,0 +1,5 @@
+pub mod Told
+pub mod Laid
+pub mod Runs
+pub mod Resume
+pub mod Wrong

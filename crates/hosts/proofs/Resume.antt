@@ -1,0 +1,155 @@
+-- DEMAND 3 FOR A HOST IN C, SECOND HALF: stop, save, restore, log in again, and go on as the run that never stopped.
+-- Assumes nothing.
+use mathlib.Core.Path.{_≡_, refl, sym, ap, _∙_, subst}
+use mathlib.Core.Logic.{_⊎_}
+use mathlib.Core.Bool.{true, false}
+use mathlib.Core.List.{List, [], _++_}
+use Prim.Native.Nat.{ℕ, _*_, _/_, _≤_}
+use native.Mathlib.Omega.{arith}
+use borrow.Author.Tests.{eq-eqb}
+use lib.ListN.{length}
+use Rattle.field.specs.Bytes.{part, Bytes}
+use Rattle.packet.specs.Stream.{State, live, reading}
+use Rattle.packet.specs.Line.{LoggedIn}
+use Rattle.packet.specs.Session.{Session, Event, soupBinTCP, anyLogin, restored, loginPacket}
+use Rattle.table.specs.Memory.{tableSize}
+use Rattle.image.specs.Save.{saving, sizeFor}
+use Rattle.image.specs.Restore.{restoreOf}
+use Rattle.image.specs.declared.Saved.{Saved}
+use Rattle.image.specs.declared.Verdict.the-variants.{Accepted}
+use Rattle.handle.specs.Handle.{handleSize, headOf}
+use Rattle.record.specs.Record.{Answered, answered}
+use Rattle.reader.specs.Deliver.{Table, Said, deliver}
+use Rattle.reader.specs.View.{sessionOf, heldOf, stateOf, heldIn, readyOf}
+use Rattle.reader.specs.Saving as readers
+use Rattle.reader.specs.Saving.{saveAll, lineOf, restoreAll}
+use Rattle.reader.specs.declared.Restored.{Restored}
+use Rattle.abi.specs.Host.{readerIn, headIn, Left, left, unheld, verdictNumber, restoredAs, restoreHost, savedNumber, savedAs, saveHost, HostSaves, HostRestores}
+use Rattle.abi.proofs.Heads.{head-in}
+use Rattle.demands.specs.Stopped.{StoppedAt, GoesOn}
+use Rattle.demands.proofs.Saved.{ours-saved, comes-back}
+use Rattle.demands.proofs.Stopped.{Took, called-took, stopped-at}
+use Rattle.demands.proofs.Resume.{stopped-logged, given-bytes, resumed, restored-kept}
+use Rattle.hosts.specs.Runs.{HostRun, HostDone}
+use Rattle.hosts.proofs.Laid.{HostOurs, own-used}
+use Rattle.hosts.proofs.Runs.{Fresh, unheld-fresh, own-unfinished, run-called, run-ours, run-read}
+
+-- THEOREM: handles that are the same reader have the same head, byte for byte what the head's fields say
+pub same-heads : (h t h′ t′ : List ℕ) → HostOurs h t → HostOurs h′ t′ → stateOf (readerIn h) t ≡ stateOf (readerIn h′) t′ → headOf h ≡ headOf h′
+same-heads h t h′ t′ o o′ e =
+    let u : readerIn h .used ≡ readerIn h′ .used
+    = own-used h t o ∙ ap (λ (st : State (Session Table)). length (heldIn st)) e ∙ sym (own-used h′ t′ o′) in
+    sym (head-in (readerIn h) t) ∙ (λ i. headIn (e i) (u i)) ∙ head-in (readerIn h′) t′
+
+-- A handle of ours, by its own bytes neither ended nor refused, is stepped with bytes. It is logged in, or a login is among them, and it is stopped before
+-- any end.
+module _ (h₀ t₀ : List ℕ) (o₀ : HostOurs h₀ t₀) (open₀ : (headOf h₀ .refusal ≡ 0) × (headOf h₀ .ended ≡ false))
+    (bs : List ℕ) (bytes : Bytes bs) (es : List (Event Said)) (handle table rest : List ℕ) (before : HostRun h₀ t₀ bs es handle table rest)
+    (logged : LoggedIn (headOf h₀ .line) ⊎ (anyLogin es ≡ true)) (unended : headOf handle .ended ≡ false) where
+  abbrev session₀ : Session Table
+  session₀ = sessionOf (headOf h₀ .line) (headOf h₀ .board) t₀
+
+  abbrev held₀ : List ℕ
+  held₀ = heldOf (readerIn h₀)
+
+  abbrev session : Session Table
+  session = sessionOf (headOf handle .line) (headOf handle .board) table
+
+  begun : stateOf (readerIn h₀) t₀ ≡ live session₀ held₀
+  begun = rw (open₀ .0, open₀ .1)
+
+  own : HostOurs handle table
+  own = run-ours before o₀ bytes
+
+  -- THEOREM: there is a last accepted packet, and bytes that follow it: those that are held or were refused, and those that were not taken
+  pub stopped : StoppedAt session₀ held₀ bs es session
+  stopped =
+      stopped-at session₀ held₀ bs rest (readerIn handle) table
+      (subst (λ (st : State (Session Table)). Took (soupBinTCP deliver) st bs es (stateOf (readerIn handle) table) rest) begun
+      (called-took (soupBinTCP deliver) (run-called before o₀ bytes) (own-unfinished h₀ t₀ o₀)))
+      unended
+
+  is-logged-in : LoggedIn (headOf handle .line)
+  is-logged-in = stopped-logged session₀ held₀ bs es session stopped logged
+
+  -- it is saved to an output that is long enough
+  module _ (out : List ℕ) (room : sizeFor (headOf handle .board .rows) ≤ length out) (a₁ : ℕ) (z : List ℕ) (save : HostSaves handle table out a₁ z) where
+    abbrev size : ℕ
+    size = sizeFor (headOf handle .board .rows)
+
+    abbrev said : Saved
+    said = saveAll (readerIn handle) table out .answer
+
+    save-is : answered a₁ z ≡ savedAs (saveAll (readerIn handle) table out)
+    unfolding saveHost
+    save-is = rw (own .handle-is) at save
+
+    saves : readers.Saves (readerIn handle) table out said z
+    saves = ap (λ (q : Answered). saving said (q .memory)) save-is
+
+    -- THEOREM: which is not refused; the answer is the count of its bytes
+    pub saved : a₁ ≡ size * 256
+    saved = ap (λ (q : Answered). q .number) save-is ∙ ap savedNumber (ours-saved (readerIn handle) table (own .ours) out room said z saves)
+
+    count : a₁ / 256 ≡ size
+    count = omega (arith, saved)
+
+    -- and so many bytes are restored from it into memory of the right lengths
+    module _ (hm₂ tm₂ : List ℕ) (handle-long : length hm₂ ≡ handleSize) (table-long : length tm₂ ≡ tableSize) (a₂ : ℕ) (h₂ t₂ : List ℕ)
+        (restore : HostRestores hm₂ tm₂ (part z 0 (a₁ / 256)) a₂ h₂ t₂) where
+      abbrev image : List ℕ
+      image = part z 0 size
+
+      restore-is : left a₂ h₂ t₂ ≡ restoredAs (restoreAll image tm₂)
+      unfolding restoreHost
+      restore-is = rw (eq-eqb (length hm₂) handleSize handle-long, count) at restore
+
+      -- as a reader
+      abbrev came : Restored
+      came =
+          let o = restoreOf image tm₂ in
+          record { reader = readyOf (lineOf (o .answer .header)) (o .answer .header .board); verdict = o .answer .verdict }
+
+      abbrev after : List ℕ
+      after = restoreOf image tm₂ .memory
+
+      comes : readers.Restores image tm₂ came after
+      unfolding restoreAll
+      comes = refl
+
+      back : (came .verdict ≡ Accepted) × (stateOf (came .reader) after ≡ live (restored session) [])
+      back =
+          let b = comes-back (readerIn handle) table (own .ours) out room said z saves tm₂ table-long came after comes in
+          (b .0, b .1 ∙ rw (is-logged-in .known))
+
+      -- THEOREM: which is not refused either
+      pub not-refused : a₂ ≡ 0
+      unfolding restoreAll
+      not-refused = ap (λ (q : Left). q .number) restore-is ∙ ap verdictNumber (back .0)
+
+      -- THEOREM: and the handle is ours again, so that it may be stopped again; it waits for its login
+      pub waits : Fresh h₂ t₂ (restored session)
+      unfolding restoreAll
+      waits =
+          unheld-fresh (restored session) (restored-kept session (own .ours .sound)) (own .ours .sound .ten) a₂ (verdictNumber (came .verdict)) h₂ t₂
+          (restore-is ∙ ap (λ (st : State (Session Table)). unheld (verdictNumber (came .verdict)) st 0) (back .1))
+
+      -- THEOREM: the restored handle is given a login for the saved session and number, and then the bytes that follow the last accepted packet. By
+      -- its answers and event memory the later events, and the table and any refusal, are those of the run that never stopped.
+      pub goes-on : (s : StoppedAt session₀ held₀ bs es session) (es₁ : List (Event Said)) (h₃ t₃ rest₁ : List ℕ)
+          → HostRun h₂ t₂ (loginPacket (headOf handle .line .session) (headOf handle .line .next) ++ s .following) es₁ h₃ t₃ rest₁
+          → HostDone h₃ rest₁
+          → (es₂ : List (Event Said)) (h₄ t₄ rest₂ : List ℕ)
+          → HostRun h₀ t₀ bs es₂ h₄ t₄ rest₂ → HostDone h₄ rest₂
+          → GoesOn session es es₁ es₂ (readerIn h₃) t₃ (readerIn h₄) t₄ × (headOf h₃ ≡ headOf h₄)
+      goes-on s es₁ h₃ t₃ rest₁ later none₁ es₂ h₄ t₄ rest₂ never none₂ =
+          let j = soupBinTCP deliver in
+          let login : List ℕ = loginPacket (headOf handle .line .session) (headOf handle .line .next) in
+          let given = given-bytes session₀ held₀ bs es session s (o₀ .ours .bytes) bytes (own .ours .sound .name) in
+          let on : GoesOn session es es₁ es₂ (readerIn h₃) t₃ (readerIn h₄) t₄
+          = resumed session₀ held₀ bs es session s (own .ours .sound .range) is-logged-in
+          es₁ (readerIn h₃) t₃
+          (ap (λ (st : State (Session Table)). reading j st (login ++ s .following)) (sym (waits .state)) ∙ run-read later (waits .ours) given none₁)
+          es₂ (readerIn h₄) t₄
+          (ap (λ (st : State (Session Table)). reading j st bs) (sym begun) ∙ run-read never o₀ bytes none₂) in
+          (on, same-heads h₃ t₃ h₄ t₄ (run-ours later (waits .ours) given) (run-ours never o₀ bytes) (on .state))

@@ -1,0 +1,331 @@
+-- DEMAND 3 FOR A HOST IN C, FIRST HALF: whatever pieces it gives, its answers and event memory tell the events of the reading of the uncut bytes.
+-- Assumes nothing.
+use mathlib.Core.Path.{_≡_, refl, sym, ap, _∙_, subst}
+use mathlib.Core.Bool.{Bool, true, false}
+use mathlib.Core.List.{List, [], _++_}
+use mathlib.Core.Logic.{_⊎_, inl, inr}
+use Prim.Native.Nat.{ℕ, _+_, _-_, _*_, _%_, _≤_}
+use native.Mathlib.Omega.{arith}
+use borrow.Author.Tests.{eqb-true, eq-eqb}
+use lib.Dec.{eqb}
+use lib.ListN.{length, drop, length-replicate}
+use Rattle.field.specs.Bytes.{part, overlay, Bytes}
+use Rattle.packet.specs.Frame.{Framed, short, badLength, packet, frame, heldSize}
+use Rattle.packet.specs.Stream as stream
+use Rattle.packet.specs.Stream.{State, live, ended, refused, accept, finish, refuse, stepJudged, stepFramed, Called, Unfinished, NothingLeft, eventsOf, reading, stepOf}
+use Rattle.packet.specs.Line.{freshLine}
+use Rattle.packet.specs.Session as packets
+use Rattle.packet.specs.Session.{Session, Event, soupBinTCP}
+use Rattle.packet.proofs.Rules.{both, never}
+use Rattle.packet.proofs.Step as packet-steps
+use Rattle.packet.proofs.Step.{any-caller}
+use Rattle.table.specs.Board.{startOf}
+use Rattle.handle.specs.Handle.{headSize, handleSize, headOf}
+use Rattle.record.specs.Places.{recordSize}
+use Rattle.reader.specs.Deliver.{Table, Said, deliver}
+use Rattle.reader.specs.View.{sessionOf, heldOf, stateOf, Seen, seen, heldIn, readyOf}
+use Rattle.reader.specs.Calls.{freshOn, verdictNumber, startAll, Starting, stepAll, placesBy, placesAfter}
+use Rattle.reader.specs.declared.Started.{Started}
+use Rattle.reader.specs.declared.StartAnswer.the-variants.{Ready}
+use Rattle.abi.specs.Host.{readerIn, handleBytes, noHeld, headIn, memoryIn, Left, left, unheld, startedAs, startHost, Gone, goneTo, movedBy, toldEvent, told, Stepped, hostStepped, steppedAs, stepHost, HostSteps, HostStarts}
+use Rattle.demands.specs.Sound.{begin}
+use Rattle.demands.proofs.Bytes.{bytes-append, bytes-left, bytes-right, bytes-drop}
+use Rattle.demands.proofs.Kept.{Kept, ours-kept, ours-within, step-kept}
+use Rattle.demands.proofs.View.{endedIn, refusalIn, ended-of, refusal-of}
+use Rattle.demands.proofs.Callers as callers
+use Rattle.hosts.specs.Events.{takenIn, kindIn, eventsIn, eventsFor}
+use Rattle.hosts.specs.Runs.{HostRun, stop, step, HostDone}
+use Rattle.hosts.proofs.Told.{stands-low, AnswerFits, answer-back, step-fits}
+use Rattle.hosts.proofs.Laid.{Ten, Sized, step-sized, HostOurs, laid-state, laid-ours, step-places, own-sized, own-long, own-used, own-holds}
+
+-- ---- one step
+
+-- what a step with event memory of its length did
+pub record Went (a : ℕ) (handle′ table′ event′ : List ℕ) (x : stream.Stepped (Session Table) (Event Said)) : Type 0 where
+  pub ours : HostOurs handle′ table′
+  pub state : stateOf (readerIn handle′) table′ ≡ x .state
+  pub events : eventsIn a event′ ≡ eventsOf (x .answer)
+  pub taken : takenIn a ≡ x .taken
+
+-- the low byte of an answer is the number of a refusal that may stand, or 0
+event-byte : (e : Event Said) (memory : List ℕ) (n : ℕ) → (toldEvent e memory .number + n * 65_536) % 256 ≡ 0
+unfolding toldEvent
+event-byte (packets.login m session) memory n = omega arith
+event-byte (packets.rejected reason) memory n = omega arith
+event-byte (packets.message x) memory n = omega arith
+event-byte packets.heartbeat memory n = omega arith
+event-byte packets.end memory n = omega arith
+event-byte packets.skipped memory n = omega arith
+
+low-byte : (a : stream.Answer (Event Said)) (memory : List ℕ) (n : ℕ) → AnswerFits a → (told a memory .number + n * 65_536) % 256 ≡ 20 → ⊥
+unfolding told
+low-byte (stream.Event x) memory n f e = omega (arith, event-byte x memory n)
+low-byte stream.More memory n f e = omega arith
+low-byte stream.Ended memory n f e = omega arith
+low-byte (stream.Refused k) memory n f e = omega (arith, stands-low k f)
+
+-- an answer of kind 7 or 8 leaves a reader that has ended or refused
+abbrev Stops : stream.Answer (Event Said) → State (Session Table) → Type 0
+Stops (stream.Event e) st = Unit
+Stops stream.More st = Unit
+Stops stream.Ended st = endedIn st ≡ true
+Stops (stream.Refused n) st = eqb (refusalIn st) 0 ≡ false
+
+judged-stops : (n : ℕ) (v : stream.Verdict (Session Table) (Event Said)) → Sized (stepJudged n v .state) → Stops (stepJudged n v .answer) (stepJudged n v .state)
+judged-stops n (accept e s) z = tt
+judged-stops n (finish e s) z = tt
+judged-stops n (refuse k s) z = z .1
+
+framed-stops : (s : Session Table) (held piece : List ℕ) (f : Framed)
+    → (let x = stepFramed (soupBinTCP deliver) s held piece f in Sized (x .state) → Stops (x .answer) (x .state))
+framed-stops s held piece short z = tt
+framed-stops s held piece (badLength r) z = z .1
+framed-stops s held piece (packet l b r) z = judged-stops (length piece - length r) (soupBinTCP deliver s l b) z
+
+step-stops : (st : State (Session Table)) (piece : List ℕ)
+    → (let x = stepOf (soupBinTCP deliver) st piece in Sized (x .state) → Stops (x .answer) (x .state))
+unfolding stepOf
+step-stops (live s held) piece z = framed-stops s held piece (frame (held ++ piece)) z
+step-stops (ended s held) piece z = refl
+step-stops (refused s held e n) piece z = z .1
+
+event-kind : (e : Event Said) (memory : List ℕ) (n : ℕ) → kindIn (toldEvent e memory .number + n * 65_536) ≤ 6
+unfolding toldEvent
+event-kind (packets.login m session) memory n = omega arith
+event-kind (packets.rejected reason) memory n = omega arith
+event-kind (packets.message x) memory n = omega arith
+event-kind packets.heartbeat memory n = omega arith
+event-kind packets.end memory n = omega arith
+event-kind packets.skipped memory n = omega arith
+
+told-stops : (a : stream.Answer (Event Said)) (memory : List ℕ) (n : ℕ) (st : State (Session Table)) → 7 ≤ kindIn (told a memory .number + n * 65_536)
+    → Stops a st → (endedIn st ≡ true) ⊎ (eqb (refusalIn st) 0 ≡ false)
+unfolding told
+told-stops (stream.Event x) memory n st k s = absurd (omega (arith, event-kind x memory n))
+told-stops stream.More memory n st k s = absurd (omega arith)
+told-stops stream.Ended memory n st k s = inl s
+told-stops (stream.Refused m) memory n st k s = inr s
+
+module _ (handle table piece event : List ℕ) (o : HostOurs handle table) (b : Bytes piece) (a : ℕ) (handle′ table′ event′ : List ℕ)
+    (s : HostSteps handle table piece event a handle′ table′ event′) where
+  abbrev before : State (Session Table)
+  before = stateOf (readerIn handle) table
+
+  abbrev went : stream.Stepped (Session Table) (Event Said)
+  went = stepOf (soupBinTCP deliver) before piece
+
+  abbrev places : List ℕ
+  places = part handle headSize heldSize
+
+  abbrev places′ : List ℕ
+  places′ = placesBy (went .answer) places (overlay places (length (heldIn before)) (part piece 0 (went .taken)))
+
+  all : stepAll (readerIn handle) table piece ≡ seen went
+  unfolding stepAll
+  all = rw (ours-within (readerIn handle) table (o .ours))
+
+  moved : movedBy handle table piece ≡ goneTo (seen went) places′
+  unfolding movedBy
+  moved =
+      ap (λ (x : Seen). goneTo x (placesAfter places (headOf handle .used) piece x)) all
+      ∙ ap (λ (n : ℕ). goneTo (seen went) (placesAfter places n piece (seen went))) (own-used handle table o)
+
+  kept : Kept (went .state)
+  kept = step-kept before piece b (ours-kept (readerIn handle) table (o .ours))
+
+  sized : Sized (went .state)
+  sized = step-sized before piece (own-sized handle table o)
+
+  module _ (long : length event ≡ recordSize) where
+    is : hostStepped a handle′ table′ event′ ≡ steppedAs (goneTo (seen went) places′) event
+    unfolding stepHost
+    is = (rw (eq-eqb (length event) recordSize long, o .handle-is) at s) ∙ ap (λ (g : Gone). steppedAs g event) moved
+
+    pub step-went : Went a handle′ table′ event′ went
+    step-went =
+        let p = step-places piece places (own-long handle table o) before (own-holds handle table o) in
+        let x : List ℕ = handleBytes (headIn (went .state) (length (heldIn (went .state)))) places′ in
+        let h : handle′ ≡ x = ap (λ (q : Stepped). q .handle) is in
+        let t : table′ ≡ memoryIn (went .state) = ap (λ (q : Stepped). q .table) is in
+        let back = answer-back event long (went .taken) (went .answer) (step-fits before piece b (ours-kept (readerIn handle) table (o .ours))) in
+        record {
+          ours =
+              subst (λ (y : List ℕ). HostOurs y table′) (sym h)
+              (subst (HostOurs x) (sym t) (laid-ours (went .state) kept sized places′ (p .long) (p .holds)));
+          state =
+              ap (λ (y : List ℕ). stateOf (readerIn y) table′) h ∙ ap (stateOf (readerIn x)) t
+              ∙ laid-state (went .state) kept sized places′ (p .long) (p .holds);
+          events = (λ i. eventsIn (is i .number) (is i .event)) ∙ back .events;
+          taken = ap (λ (q : Stepped). takenIn (q .number)) is ∙ back .taken;
+        }
+
+    -- THEOREM: a step of what is ours, with event memory of its length, is not refused as 20
+    pub not-20 : a % 256 ≡ 20 → ⊥
+    not-20 e =
+        low-byte (went .answer) event (went .taken) (step-fits before piece b (ours-kept (readerIn handle) table (o .ours)))
+        (ap (λ (q : Stepped). q .number % 256) (sym is) ∙ e)
+
+    -- THEOREM: IT GETS ON. By its answer, a step of a handle that has neither ended nor refused takes a byte at least of a piece that is not empty.
+    pub gets-on : (headOf handle .refusal ≡ 0) × (headOf handle .ended ≡ false) → 1 ≤ length piece → 1 ≤ takenIn a
+    gets-on alive h =
+        let w : Went a handle′ table′ event′ went = step-went in
+        let session : Session Table = sessionOf (headOf handle .line) (headOf handle .board) table in
+        let held : List ℕ = heldOf (readerIn handle) in
+        let e : before ≡ live session held = rw (alive .0, alive .1) in
+        rw (w .taken ∙ ap (λ (x : State (Session Table)). stepOf (soupBinTCP deliver) x piece .taken) e)
+        (packet-steps.gets-on (soupBinTCP deliver) session held piece (o .ours .short) h)
+
+    -- THEOREM: after an answer of kind 7 or 8 no step is left to make
+    pub says-done : 7 ≤ kindIn a → (rest : List ℕ) → HostDone handle′ rest
+    says-done k rest =
+        by
+        (told-stops (went .answer) event (went .taken) (went .state)
+        (subst (λ (n : ℕ). 7 ≤ kindIn n) (ap (λ (q : Stepped). q .number) is) k) (step-stops before piece sized))
+      where
+        w : Went a handle′ table′ event′ went
+        w = step-went
+
+        by : (endedIn (went .state) ≡ true) ⊎ (eqb (refusalIn (went .state)) 0 ≡ false) → HostDone handle′ rest
+        by (inl e) = inr (inl (sym (ended-of (readerIn handle′) table′) ∙ ap endedIn (w .state) ∙ e))
+        by (inr e) =
+            inr (inr (λ z. never (sym e ∙ ap (λ (n : ℕ). eqb n 0) (sym (ap refusalIn (w .state)) ∙ refusal-of (readerIn handle′) table′ ∙ z))))
+
+  -- one with other event memory changes nothing, takes nothing and tells nothing
+  unfit : eqb (length event) recordSize ≡ false → hostStepped a handle′ table′ event′ ≡ hostStepped 2068 handle table event
+  unfolding stepHost told
+  unfit e = rw e at s
+
+  pub one-ours : HostOurs handle′ table′
+  one-ours = by (eqb (length event) recordSize) refl
+    where
+      by : (y : Bool) → eqb (length event) recordSize ≡ y → HostOurs handle′ table′
+      by true e = step-went (eqb-true (length event) recordSize e) .ours
+      by false e = subst (λ (q : Stepped). HostOurs (q .handle) (q .table)) (sym (unfit e)) o
+
+  abbrev Goes : List ℕ → List (Event Said) → State (Session Table) → List ℕ → Type 0
+  Goes more es last rest =
+      Called (soupBinTCP deliver) (stateOf (readerIn handle′) table′) (drop (takenIn a) piece ++ more) es last rest
+      → Called (soupBinTCP deliver) before (piece ++ more) (eventsIn a event′ ++ es) last rest
+
+  pub one-called : (more : List ℕ) (es : List (Event Said)) (last : State (Session Table)) (rest : List ℕ) → Goes more es last rest
+  unfolding eventsFor
+  one-called more es last rest c = by (eqb (length event) recordSize) refl
+    where
+      by : (y : Bool) → eqb (length event) recordSize ≡ y → Called (soupBinTCP deliver) before (piece ++ more) (eventsIn a event′ ++ es) last rest
+      by true e =
+          let w = step-went (eqb-true (length event) recordSize e) in
+          let c₁ = subst (λ (st : State (Session Table)). Called (soupBinTCP deliver) st (drop (takenIn a) piece ++ more) es last rest) (w .state) c in
+          let c₂ = subst (λ (n : ℕ). Called (soupBinTCP deliver) (went .state) (drop n piece ++ more) es last rest) (w .taken) c₁ in
+          subst (λ (l : List (Event Said)). Called (soupBinTCP deliver) before (piece ++ more) (l ++ es) last rest) (sym (w .events))
+          (stream.call piece more c₂)
+      by false e =
+          subst
+          (λ (q : Stepped). Called (soupBinTCP deliver) (stateOf (readerIn (q .handle)) (q .table)) (drop (takenIn (q .number)) piece ++ more) es last rest
+          → Called (soupBinTCP deliver) before (piece ++ more) (eventsIn (q .number) (q .event) ++ es) last rest)
+          (sym (unfit e)) (λ d. d) c
+
+-- ---- a run
+
+next-bytes : (piece more : List ℕ) (n : ℕ) → Bytes (piece ++ more) → Bytes (drop n piece ++ more)
+next-bytes piece more n b = bytes-append (drop n piece) more (bytes-drop n piece (bytes-left piece more b)) (bytes-right piece more b)
+
+-- the steps of a host are calls of the definitions
+pub run-called : {handle table bs handle′ table′ rest : List ℕ} {es : List (Event Said)} → HostRun handle table bs es handle′ table′ rest
+    → HostOurs handle table → Bytes bs → Called (soupBinTCP deliver) (stateOf (readerIn handle) table) bs es (stateOf (readerIn handle′) table′) rest
+run-called stop o b = stream.stop
+run-called (step {handle = handle} {table = table} {handle″ = handle″} {table″ = table″} {rest = rest} {es = es} piece more event a handle′ table′ event′ s c) o b =
+    let own = bytes-left piece more b in
+    one-called handle table piece event o own a handle′ table′ event′ s more es (stateOf (readerIn handle″) table″) rest
+    (run-called c (one-ours handle table piece event o own a handle′ table′ event′ s) (next-bytes piece more (takenIn a) b))
+
+-- THEOREM: what they leave is a handle within its limits, and a table that keeps its rules
+pub run-ours : {handle table bs handle′ table′ rest : List ℕ} {es : List (Event Said)} → HostRun handle table bs es handle′ table′ rest
+    → HostOurs handle table → Bytes bs → HostOurs handle′ table′
+run-ours stop o b = o
+run-ours (step {handle = handle} {table = table} piece more event a handle′ table′ event′ s c) o b =
+    run-ours c (one-ours handle table piece event o (bytes-left piece more b) a handle′ table′ event′ s) (next-bytes piece more (takenIn a) b)
+
+unfinished-in : (st : State (Session Table)) → frame (heldIn st) ≡ short → Unfinished st
+unfinished-in (live s held) h = h
+unfinished-in (ended s held) h = tt
+unfinished-in (refused s held e n) h = tt
+
+pub done-left : (handle table rest : List ℕ) → HostDone handle rest → NothingLeft (stateOf (readerIn handle) table) rest
+done-left handle table rest d = by d
+  where
+    None : State (Session Table) → Type 0
+    None st = NothingLeft st rest
+
+    by : HostDone handle rest → None (stateOf (readerIn handle) table)
+    by (inl e) = both None (eqb (headOf handle .refusal) 0) (λ _. both None (headOf handle .ended) (λ _. tt) (λ _. e)) (λ _. tt)
+    by (inr (inl e)) =
+        both None (eqb (headOf handle .refusal) 0)
+        (λ _. both None (headOf handle .ended) (λ _. tt) (λ f. absurd (never (sym f ∙ e)))) (λ _. tt)
+    by (inr (inr r)) = both None (eqb (headOf handle .refusal) 0) (λ f. absurd (r (eqb-true (headOf handle .refusal) 0 f))) (λ _. tt)
+
+pub own-unfinished : (handle table : List ℕ) → HostOurs handle table → Unfinished (stateOf (readerIn handle) table)
+own-unfinished handle table o = unfinished-in (stateOf (readerIn handle) table) (ours-kept (readerIn handle) table (o .ours) .short)
+
+pub run-read : {handle table bs handle′ table′ rest : List ℕ} {es : List (Event Said)} → HostRun handle table bs es handle′ table′ rest
+    → HostOurs handle table → Bytes bs → HostDone handle′ rest
+    → reading (soupBinTCP deliver) (stateOf (readerIn handle) table) bs ≡ record { events = es; state = stateOf (readerIn handle′) table′ }
+run-read {handle = handle} {table = table} {handle′ = handle′} {table′ = table′} {rest = rest} c o b none =
+    any-caller (soupBinTCP deliver) (run-called c o b) (own-unfinished handle table o) (done-left handle′ table′ rest none)
+
+-- ---- a handle that holds nothing
+
+pub record Fresh (handle table : List ℕ) (s : Session Table) : Type 0 where
+  pub ours : HostOurs handle table
+  pub state : stateOf (readerIn handle) table ≡ live s []
+
+pub unheld-fresh : (s : Session Table) → Kept (live s []) → Ten s → (a n : ℕ) (handle table : List ℕ) → left a handle table ≡ unheld n (live s []) 0
+    → Fresh handle table s
+unheld-fresh s k ten a n handle table e =
+    let blank : length noHeld ≡ heldSize = length-replicate {A = ℕ} heldSize 0 in
+    let x : List ℕ = handleBytes (headIn (live s []) 0) noHeld in
+    let h : handle ≡ x = ap (λ (q : Left). q .handle) e in
+    let t : table ≡ s .about .memory = ap (λ (q : Left). q .table) e in
+    record {
+      ours = subst (λ (y : List ℕ). HostOurs y table) (sym h) (subst (HostOurs x) (sym t) (laid-ours (live s []) k ten noHeld blank refl));
+      state = ap (λ (y : List ℕ). stateOf (readerIn y) table) h ∙ ap (stateOf (readerIn x)) t ∙ laid-state (live s []) k ten noHeld blank refl;
+    }
+
+-- ---- from a start
+
+module _ (hm tm : List ℕ) (a : ℕ) (handle table : List ℕ) (start : HostStarts hm tm a handle table) (ready : a ≡ 0) where
+  -- both memories had their lengths
+  start-long : left a handle table ≡ startedAs (startAll tm)
+  unfolding startHost
+  start-long = by (eqb (length hm) handleSize) refl
+    where
+      by : (y : Bool) → eqb (length hm) handleSize ≡ y → left a handle table ≡ startedAs (startAll tm)
+      by true e = rw e at start
+      by false e =
+          let z : left a handle table ≡ left 20 hm tm = rw e at start in
+          absurd (omega (arith, ap (λ (q : Left). q .number) z))
+
+  -- THEOREM: a handle that was started without refusal is ours, and its reader is fresh
+  pub started : Fresh handle table begin
+  unfolding startAll
+  started =
+      let o = startOf tm in
+      let r : Started = record { reader = readyOf freshLine (o .applied .board); answer = Ready } in
+      let n : 0 ≡ verdictNumber (o .applied .verdict) = sym ready ∙ ap (λ (q : Left). q .number) start-long in
+      let h : Starting tm r (o .memory) = λ i. record { state = live (freshOn o) []; used = 0; refusal = n i } in
+      let w = callers.started tm r (o .memory) h refl .0 in
+      unheld-fresh begin (subst Kept w (ours-kept (r .reader) (o .memory) (callers.start-ours tm r (o .memory) h refl))) refl
+      a (verdictNumber (o .applied .verdict)) handle table
+      (start-long ∙ ap (λ (st : State (Session Table)). unheld (verdictNumber (o .applied .verdict)) st 0) w)
+
+  -- THEOREM: ANY HOST, ANY PIECES. Of a handle that was started without refusal, steps with handle and table handed on untouched and until no byte is
+  -- left or the reader has ended or refused, tell by their answers and event memory the events, in order, and leave the reader and the table of the
+  -- reading of the uncut bytes.
+  pub any-host : {bs handle′ table′ rest : List ℕ} {es : List (Event Said)} → Bytes bs → HostRun handle table bs es handle′ table′ rest
+      → HostDone handle′ rest → reading (soupBinTCP deliver) (live begin []) bs ≡ record { events = es; state = stateOf (readerIn handle′) table′ }
+  any-host {bs} b c none =
+      ap (λ (st : State (Session Table)). reading (soupBinTCP deliver) st bs) (sym (started .state)) ∙ run-read c (started .ours) b none
+
+  -- THEOREM: what they leave is a handle within its limits, and a table that keeps its rules, however many bytes are left
+  pub rules-kept : {bs handle′ table′ rest : List ℕ} {es : List (Event Said)} → Bytes bs → HostRun handle table bs es handle′ table′ rest
+      → HostOurs handle′ table′
+  rules-kept b c = run-ours c (started .ours) b
