@@ -40,6 +40,12 @@ module _ (image : List ℕ) (size : lengthKeeps image ≡ true) (k : ℕ) (there
   unfolding verdictOf headsKeep
   bad-head c n e = rw (size, c, n, ← below-stop (headKeeps image (countOf image) (headerOf image)) k (countOf image) there e)
 
+-- a next number outside 1 to 10 ^ 12 is 23 where every check is right
+pub bad-next : (image : List ℕ) → lengthKeeps image ≡ true → checksKeep image (countOf image) ≡ true → numberInRange (headerOf image .next) ≡ false
+    → verdictOf image ≡ Refused BadHead
+unfolding verdictOf headsKeep
+bad-next image size c n = rw (size, c, n)
+
 -- ---- what a refusal leaves
 
 left-if : (a b c : Bool) (n : ℕ) (w out z : List ℕ) (r : Refusal)
