@@ -63,6 +63,13 @@ module _ (sides : ℕ) {side : Side} where
   pub ask-added : side ≡ Ask → (sides / 2 % 2 ≡ 1 → ⊥) → sides + 2 ≡ seenWith side sides
   ask-added i e = rw i (seen-added Ask sides (ne-eqb (sides / 2 % 2) 1 e))
 
+-- what is seen, by the side that is asked for
+pub bid-told : {side : Side} (sides : ℕ) → side ≡ Bid → eqb (sides % 2) 1 ≡ hasSeen side sides
+bid-told sides i = rw i
+
+pub ask-told : {side : Side} (sides : ℕ) → side ≡ Ask → eqb (sides / 2 % 2) 1 ≡ hasSeen side sides
+ask-told sides i = rw i
+
 -- a short price is pennies
 pub widened-made : (n : ShortNumbers) {price : ℕ} → price ≡ tenThousandths (n .price)
     → _≡_ {A = LongNumbers} (record { market = n .market; price = price; size = n .size; customer = n .customer; professional = n .professional }) (widened n)

@@ -7,7 +7,16 @@ use Rattle.row.proofs.rules.keep.Tie as tie
 
 returns : tie.Need-returns
 unfolding rowKeeps
-returns c = cc
+returns c =
+    rw (
+      c .before .before .before .before .before .before .entry-keeps .ensures,
+      c .before .before .before .before .before .marks-keep .ensures,
+      c .before .before .before .before .side-keeps .ensures,
+      c .before .before .before .side-keeps2 .ensures,
+      c .before .before .bare-keeps .ensures,
+      c .before .stamp-keeps .ensures,
+      c .spare-keeps .ensures,
+    )
 
 pub keep-spec : {M : Type 1} → statement M
 keep-spec =
