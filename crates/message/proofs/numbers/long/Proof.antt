@@ -7,7 +7,14 @@ use Rattle.message.proofs.numbers.long.Tie as tie
 
 returns : tie.Need-returns
 unfolding values
-returns c = cc
+returns c i =
+    record {
+      market = c .before .before .before .before .read4 .ensures i;
+      price = c .before .before .before .long-price .ensures i;
+      size = c .before .before .read42 .ensures i;
+      customer = c .before .read43 .ensures i;
+      professional = c .read44 .ensures i;
+    }
 
 pub long-spec : {M : Type 1} → statement M
 long-spec =

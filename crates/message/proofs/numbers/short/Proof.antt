@@ -7,7 +7,14 @@ use Rattle.message.proofs.numbers.short.Tie as tie
 
 returns : tie.Need-returns
 unfolding values
-returns c = cc
+returns c i =
+    record {
+      market = c .before .before .before .before .read2 .ensures i;
+      price = c .before .before .before .read22 .ensures i;
+      size = c .before .before .read23 .ensures i;
+      customer = c .before .read24 .ensures i;
+      professional = c .read25 .ensures i;
+    }
 
 pub short-spec : {M : Type 1} → statement M
 short-spec =

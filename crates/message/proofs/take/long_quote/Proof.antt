@@ -7,7 +7,14 @@ use Rattle.message.proofs.take.long_quote.Tie as tie
 
 returns : tie.Need-returns
 unfolding values
-returns c = cc
+returns c i =
+    record {
+      stamp = c .before .before .before .before .stamp .ensures i;
+      id = c .before .before .before .read4 .ensures i;
+      condition = c .before .before .condition .ensures i;
+      bid = c .before .long .ensures i;
+      ask = c .long2 .ensures i;
+    }
 
 pub long-quote-spec : {M : Type 1} → statement M
 long-quote-spec =

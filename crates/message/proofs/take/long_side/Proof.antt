@@ -7,7 +7,14 @@ use Rattle.message.proofs.take.long_side.Tie as tie
 
 returns : tie.Need-returns
 unfolding values
-returns c = cc
+returns c i =
+    record {
+      stamp = c .before .before .before .stamp .ensures i;
+      id = c .before .before .read4 .ensures i;
+      condition = c .before .condition .ensures i;
+      side = c .before .before .before .before .before .args .side;
+      numbers = c .long .ensures i;
+    }
 
 pub long-side-spec : {M : Type 1} → statement M
 long-side-spec =

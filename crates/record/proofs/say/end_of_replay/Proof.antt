@@ -7,7 +7,10 @@ use Rattle.record.proofs.say.end_of_replay.Tie as tie
 
 returns : tie.Need-returns
 unfolding values
-returns c = cc
+returns c i =
+    record {
+      number = c .read8 .ensures i;
+    }
 
 pub end-of-replay-spec : {M : Type 1} → statement M
 end-of-replay-spec = tie.close (tie.spec (λ c κs. search needs) returns)

@@ -7,7 +7,18 @@ use Rattle.record.proofs.say.instrument.Tie as tie
 
 returns : tie.Need-returns
 unfolding values
-returns c = cc
+returns c i =
+    record {
+      id = c .before .before .before .before .before .before .before .before .read4 .ensures i;
+      year = c .before .before .before .before .before .before .before .read1 .ensures i;
+      month = c .before .before .before .before .before .before .read12 .ensures i;
+      day = c .before .before .before .before .before .read13 .ensures i;
+      strike = c .before .before .before .before .read42 .ensures i;
+      kind = c .before .before .before .read14 .ensures i;
+      closing = c .before .before .read15 .ensures i;
+      tradable = c .before .read16 .ensures i;
+      variation = c .read17 .ensures i;
+    }
 
 pub instrument-spec : {M : Type 1} → statement M
 instrument-spec =

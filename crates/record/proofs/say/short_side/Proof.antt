@@ -1,13 +1,24 @@
 -- `record::say::short_side` meets its contract.
 -- Assumes nothing.
+use mathlib.Core.Path.{ap, _∙_}
+use Prim.Native.Nat.{ℕ}
 use borrow.Author.Needs.{needs}
 use Rattle.message.specs.Layout.{values}
+use Rattle.message.specs.Letters.{shortNumbersOf}
+use Rattle.record.specs.Places.{shortPlaces}
 use Rattle.record.proofs.say.short_side.Statement.{statement}
 use Rattle.record.proofs.say.short_side.Tie as tie
 
 returns : tie.Need-returns
 unfolding values
-returns c = cc
+returns c i =
+    record {
+      stamp = c .before .before .before .before .stamp .ensures i;
+      id = c .before .before .before .read4 .ensures i;
+      condition = c .before .before .read1 .ensures i;
+      side = c .before .before .before .before .before .before .args .side;
+      numbers = (c .short .ensures ∙ ap (λ (at : ℕ). shortNumbersOf (values (shortPlaces at) (c .before .before .before .before .before .before .args .bytes .now))) (c .before .side-at .ensures .0)) i;
+    }
 
 pub short-side-spec : {M : Type 1} → statement M
 short-side-spec =
