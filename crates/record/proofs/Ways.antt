@@ -11,7 +11,7 @@ use lib.ListN.{length, getD, replicate}
 use Rattle.field.specs.Bytes.{part, overlay, be, same}
 use Rattle.field.proofs.Parts.{part-length, part-whole, overlay-whole}
 use Rattle.message.specs.Layout.{values}
-use Rattle.message.specs.Letters.{Letter, letterIn, letterFor, shortNumbersOf, textsOf}
+use Rattle.message.specs.Letters.{Letter, letterIn, letterFor, noTexts, shortNumbersOf, textsOf}
 use Rattle.message.specs.Message.{refusalNumber, writeRefusalNumber, readOf, keeps, bytesOf, Outcome, outcome, writeOf}
 use Rattle.message.specs.declared.ShortNumbers.{ShortNumbers}
 use Rattle.message.specs.declared.Message.{Message}
@@ -51,10 +51,13 @@ texts-copied bs h p q r i =
       reserved = (r ∙ overlay-whole (replicate 16 0) (part bs 96 16) (part-length bs 96 16 (omega arith))) i;
     }
 
+-- a message that has no texts, of a record that is read
+pub said-as : {A : Type 0} (says : A → Message) {x a : A} → x ≡ a → held (says x) noTexts ≡ held (says a) noTexts
+said-as says e = ap (λ x. held (says x) noTexts) e
+
 -- in the arm of letter k
-pub arm : {A : Type 0} (k c : ℕ) (bs : List ℕ) (says : A → Message) (a : A) (t : Texts) {x : A} {r : Held} → c ≡ k → x ≡ a → r ≡ held (says x) t
-    → held (says a) t ≡ saidBy (letterIn recordLetters k) bs → r ≡ saidBy (letterIn recordLetters c) bs
-arm k c bs says a t e is p q = p ∙ ap (λ x. held (says x) t) is ∙ q ∙ ap (λ x. saidBy (letterIn recordLetters x) bs) (sym e)
+pub arm : (k c : ℕ) (bs : List ℕ) {r : Held} → c ≡ k → r ≡ saidBy (letterIn recordLetters k) bs → r ≡ saidBy (letterIn recordLetters c) bs
+arm k c bs e p = p ∙ ap (λ x. saidBy (letterIn recordLetters x) bs) (sym e)
 
 infixr 5 _also_
 abbrev _also_ : {A B : Type 0} → A → B → A × B

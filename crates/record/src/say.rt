@@ -1,4 +1,4 @@
-// What the fields of a record's bytes say, by their letter.
+// What the fields of a record's bytes say, by their letter: one reader for each kind.
 use crate::Held;
 use crate::Taken;
 use crate::lay;
@@ -21,8 +21,8 @@ ghost use mathlib.Core.Path.{_≡_};
 ghost use Prim.Native.Nat.{_+_, _≤_};
 ghost use lib.ListN.{length};
 ghost use Rattle.message.specs.Layout.{values};
-ghost use Rattle.message.specs.Letters.{letterIn, noTexts, stampOf, shortNumbersOf, systemEventOf, instrumentOf, textsOf, directoryOf, tradingActionOf, shortQuoteOf, longQuoteOf, shortSideOf, longSideOf, endOfReplayOf};
-ghost use Rattle.record.specs.Places.{recordSize, stampPlaces, shortPlaces, systemEventPlaces, instrumentPlaces, directoryPlaces, headPlaces, shortQuotePlaces, longQuotePlaces, shortSidePlaces, longSidePlaces, endOfReplayPlaces, recordLetters};
+ghost use Rattle.message.specs.Letters.{letterIn, noTexts, stampOf, shortNumbersOf, instrumentOf, textsOf, systemEventLetter, directoryLetter, tradingActionLetter, shortQuoteLetter, longQuoteLetter, shortSideLetter, longSideLetter, endOfReplayLetter};
+ghost use Rattle.record.specs.Places.{recordSize, stampPlaces, shortPlaces, systemEventPlaces, instrumentPlaces, directoryPlaces, headPlaces, shortQuotePlaces, longQuotePlaces, shortSidePlaces, longSidePlaces, endOfReplayPlaces, recordLetter, recordLetters};
 ghost use Rattle.record.specs.Record.{held, saidBy};
 
 fn stamp(bytes: &[u8]) -> Stamp
@@ -49,14 +49,24 @@ fn short(bytes: &[u8], at: usize) -> ShortNumbers
     }
 }
 
-fn system_event(bytes: &[u8]) -> SystemEvent
-    requires { ⌜ recordSize ≤ length (now bytes) ⌝ }
-    ensures { λ r. ⌜ r ≡ systemEventOf (values systemEventPlaces (now (bytes .entry))) ⌝ }
+// A message that has no texts.
+fn bare(m: Message) -> Held
+    ensures { λ r. ⌜ r ≡ held m noTexts ⌝ }
 {
-    SystemEvent {
+    Held {
+        taken: Taken::Is(m),
+        texts: message::no_texts(),
+    }
+}
+
+fn system_event(bytes: &[u8]) -> Held
+    requires { ⌜ recordSize ≤ length (now bytes) ⌝ }
+    ensures { λ r. ⌜ r ≡ saidBy (recordLetter systemEventLetter systemEventPlaces) (now (bytes .entry)) ⌝ }
+{
+    bare(Message::SystemEvent(SystemEvent {
         stamp: stamp(bytes),
         code: field::read1(bytes, 1),
-    }
+    }))
 }
 
 fn instrument(bytes: &[u8]) -> Instrument
@@ -93,106 +103,89 @@ fn texts(bytes: &[u8]) -> Texts
     }
 }
 
-fn directory(bytes: &[u8]) -> Directory
+fn directory(bytes: &[u8]) -> Held
     requires { ⌜ recordSize ≤ length (now bytes) ⌝ }
-    ensures { λ r. ⌜ r ≡ directoryOf (values directoryPlaces (now (bytes .entry))) ⌝ }
+    ensures { λ r. ⌜ r ≡ saidBy (recordLetter directoryLetter directoryPlaces) (now (bytes .entry)) ⌝ }
 {
-    Directory {
-        stamp: stamp(bytes),
-        instrument: instrument(bytes),
+    Held {
+        taken: Taken::Is(Message::Directory(Directory {
+            stamp: stamp(bytes),
+            instrument: instrument(bytes),
+        })),
+        texts: texts(bytes),
     }
 }
 
-fn trading_action(bytes: &[u8]) -> TradingAction
+fn trading_action(bytes: &[u8]) -> Held
     requires { ⌜ recordSize ≤ length (now bytes) ⌝ }
-    ensures { λ r. ⌜ r ≡ tradingActionOf (values headPlaces (now (bytes .entry))) ⌝ }
+    ensures { λ r. ⌜ r ≡ saidBy (recordLetter tradingActionLetter headPlaces) (now (bytes .entry)) ⌝ }
 {
-    TradingAction {
+    bare(Message::TradingAction(TradingAction {
         stamp: stamp(bytes),
         id: field::read4(bytes, 4),
         state: field::read1(bytes, 1),
-    }
+    }))
 }
 
-fn short_quote(bytes: &[u8]) -> ShortQuote
+fn short_quote(bytes: &[u8]) -> Held
     requires { ⌜ recordSize ≤ length (now bytes) ⌝ }
-    ensures { λ r. ⌜ r ≡ shortQuoteOf (values shortQuotePlaces (now (bytes .entry))) ⌝ }
+    ensures { λ r. ⌜ r ≡ saidBy (recordLetter shortQuoteLetter shortQuotePlaces) (now (bytes .entry)) ⌝ }
 {
-    ShortQuote {
+    bare(Message::ShortQuote(ShortQuote {
         stamp: stamp(bytes),
         id: field::read4(bytes, 4),
         condition: field::read1(bytes, 1),
         bid: short(bytes, 24),
         ask: short(bytes, 44),
-    }
+    }))
 }
 
-fn long_quote(bytes: &[u8]) -> LongQuote
+fn long_quote(bytes: &[u8]) -> Held
     requires { ⌜ recordSize ≤ length (now bytes) ⌝ }
-    ensures { λ r. ⌜ r ≡ longQuoteOf (values longQuotePlaces (now (bytes .entry))) ⌝ }
+    ensures { λ r. ⌜ r ≡ saidBy (recordLetter longQuoteLetter longQuotePlaces) (now (bytes .entry)) ⌝ }
 {
-    LongQuote {
+    bare(Message::LongQuote(LongQuote {
         stamp: stamp(bytes),
         id: field::read4(bytes, 4),
         condition: field::read1(bytes, 1),
         bid: numbers::long(bytes, 24),
         ask: numbers::long(bytes, 44),
-    }
+    }))
 }
 
-fn short_side(bytes: &[u8], side: Side) -> ShortSide
+fn short_side(bytes: &[u8], side: Side) -> Held
     requires { ⌜ recordSize ≤ length (now bytes) ⌝ }
-    ensures { λ r. ⌜ r ≡ shortSideOf side (values (shortSidePlaces side) (now (bytes .entry))) ⌝ }
+    ensures { λ r. ⌜ r ≡ saidBy (recordLetter (shortSideLetter side) (shortSidePlaces side)) (now (bytes .entry)) ⌝ }
 {
-    ShortSide {
+    bare(Message::ShortSide(ShortSide {
         stamp: stamp(bytes),
         id: field::read4(bytes, 4),
         condition: field::read1(bytes, 1),
         side,
         numbers: short(bytes, lay::side_at(side)),
-    }
+    }))
 }
 
-fn long_side(bytes: &[u8], side: Side) -> LongSide
+fn long_side(bytes: &[u8], side: Side) -> Held
     requires { ⌜ recordSize ≤ length (now bytes) ⌝ }
-    ensures { λ r. ⌜ r ≡ longSideOf side (values (longSidePlaces side) (now (bytes .entry))) ⌝ }
+    ensures { λ r. ⌜ r ≡ saidBy (recordLetter (longSideLetter side) (longSidePlaces side)) (now (bytes .entry)) ⌝ }
 {
-    LongSide {
+    bare(Message::LongSide(LongSide {
         stamp: stamp(bytes),
         id: field::read4(bytes, 4),
         condition: field::read1(bytes, 1),
         side,
         numbers: numbers::long(bytes, lay::side_at(side)),
-    }
+    }))
 }
 
-fn end_of_replay(bytes: &[u8]) -> EndOfReplay
+fn end_of_replay(bytes: &[u8]) -> Held
     requires { ⌜ recordSize ≤ length (now bytes) ⌝ }
-    ensures { λ r. ⌜ r ≡ endOfReplayOf (values endOfReplayPlaces (now (bytes .entry))) ⌝ }
+    ensures { λ r. ⌜ r ≡ saidBy (recordLetter endOfReplayLetter endOfReplayPlaces) (now (bytes .entry)) ⌝ }
 {
-    EndOfReplay {
+    bare(Message::EndOfReplay(EndOfReplay {
         number: field::read8(bytes, 16),
-    }
-}
-
-// A message that has no texts.
-fn bare(m: Message) -> Held
-    ensures { λ r. ⌜ r ≡ held m noTexts ⌝ }
-{
-    Held {
-        taken: Taken::Is(m),
-        texts: message::no_texts(),
-    }
-}
-
-fn with_texts(m: Message, bytes: &[u8]) -> Held
-    requires { ⌜ recordSize ≤ length (now bytes) ⌝ }
-    ensures { λ r. ⌜ r ≡ held m (textsOf (values instrumentPlaces (now (bytes .entry)))) ⌝ }
-{
-    Held {
-        taken: Taken::Is(m),
-        texts: texts(bytes),
-    }
+    }))
 }
 
 pub fn message(letter: u8, bytes: &[u8]) -> Held
@@ -200,16 +193,16 @@ pub fn message(letter: u8, bytes: &[u8]) -> Held
     ensures { λ r. ⌜ r ≡ saidBy (letterIn recordLetters letter) (now (bytes .entry)) ⌝ }
 {
     match letter {
-        b'S' => bare(Message::SystemEvent(system_event(bytes))),
-        b'm' => with_texts(Message::Directory(directory(bytes)), bytes),
-        b'H' => bare(Message::TradingAction(trading_action(bytes))),
-        b'q' => bare(Message::ShortQuote(short_quote(bytes))),
-        b'Q' => bare(Message::LongQuote(long_quote(bytes))),
-        b'b' => bare(Message::ShortSide(short_side(bytes, Side::Bid))),
-        b'a' => bare(Message::ShortSide(short_side(bytes, Side::Ask))),
-        b'B' => bare(Message::LongSide(long_side(bytes, Side::Bid))),
-        b'A' => bare(Message::LongSide(long_side(bytes, Side::Ask))),
-        b'M' => bare(Message::EndOfReplay(end_of_replay(bytes))),
+        b'S' => system_event(bytes),
+        b'm' => directory(bytes),
+        b'H' => trading_action(bytes),
+        b'q' => short_quote(bytes),
+        b'Q' => long_quote(bytes),
+        b'b' => short_side(bytes, Side::Bid),
+        b'a' => short_side(bytes, Side::Ask),
+        b'B' => long_side(bytes, Side::Bid),
+        b'A' => long_side(bytes, Side::Ask),
+        b'M' => end_of_replay(bytes),
         _ => crate::none(),
     }
 }

@@ -6,21 +6,24 @@ use borrow.Author.Needs.{needs}
 use Rattle.message.specs.Layout.{values}
 use Rattle.message.specs.Letters.{shortNumbersOf}
 use Rattle.record.specs.Places.{shortPlaces}
+use Rattle.message.specs.declared.Message.the-variants as message
+use Rattle.record.specs.Record.{saidBy}
+use Rattle.record.proofs.Ways.{said-as}
 use Rattle.record.proofs.say.short_side.Statement.{statement}
 use Rattle.record.proofs.say.short_side.Tie as tie
 
 returns : tie.Need-returns
-unfolding values
-returns c i =
-    record {
-      stamp = c .before .before .before .before .stamp .ensures i;
-      id = c .before .before .before .read4 .ensures i;
-      condition = c .before .before .read1 .ensures i;
-      side = c .before .before .before .before .before .before .args .side;
-      numbers = (c .short .ensures ∙ ap (λ (at : ℕ). shortNumbersOf (values (shortPlaces at) (c .before .before .before .before .before .before .args .bytes .now))) (c .before .side-at .ensures .0)) i;
-    }
+unfolding values saidBy
+returns c =
+    c .bare .ensures ∙ said-as message.ShortSide (λ i. record {
+      stamp = c .before .before .before .before .before .stamp .ensures i;
+      id = c .before .before .before .before .read4 .ensures i;
+      condition = c .before .before .before .read1 .ensures i;
+      side = c .before .before .before .before .before .before .before .args .side;
+      numbers = (c .before .short .ensures ∙ ap (λ (at : ℕ). shortNumbersOf (values (shortPlaces at) (c .before .before .before .before .before .before .before .args .bytes .now))) (c .before .before .side-at .ensures .0)) i;
+    })
 
 pub short-side-spec : {M : Type 1} → statement M
 short-side-spec =
     tie.close
-    (tie.spec (λ c κs. search needs) (λ c κs. search needs) (λ c κs. search needs) (λ c κs. search needs) (λ c κs. search needs) returns)
+    (tie.spec (λ c κs. search needs) (λ c κs. search needs) (λ c κs. search needs) (λ c κs. search needs) (λ c κs. search needs) (λ c κs. search needs) returns)
