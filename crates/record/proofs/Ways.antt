@@ -27,7 +27,7 @@ use Rattle.message.specs.declared.WriteRefusal.{WriteRefusal}
 use Rattle.message.specs.declared.WriteRefusal.the-variants.{BrokenRecord, ShortOutput}
 use Rattle.message.proofs.Table.{found}
 use Rattle.record.specs.Places.{recordSize, shortPlaces, instrumentPlaces, recordLetters}
-use Rattle.record.specs.Record.{recordBytes, held, noRecord, saidBy, saidOf, confirmed, recordOf, answered, readTo, readAnswer, writtenAs, writeFrom, writeAnswer}
+use Rattle.record.specs.Record.{laidOver, recordBytes, held, noRecord, saidBy, saidOf, confirmed, recordOf, answered, readTo, readAnswer, writtenAs, writeFrom, writeAnswer}
 use Rattle.record.specs.declared.Taken.{Taken}
 use Rattle.record.specs.declared.Taken.the-variants.{Is, NoRecord}
 use Rattle.record.specs.declared.Held.{Held}
@@ -83,8 +83,9 @@ no-arm c bs {r} n1 n2 n3 n4 n5 n6 n7 n8 n9 n10 p =
 
 -- ---- taken from bytes
 
-pub whole-same : (own bs : List ℕ) (m : Message) (t : Texts) {r : Bool} → own ≡ recordBytes m t → length own ≡ recordSize → length bs ≡ recordSize
-    → r ≡ same (part own 0 112) (part bs 0 112) → r ≡ same (recordBytes m t) bs
+pub whole-same : (own bs : List ℕ) (m : Message) (t : Texts) {r : Bool} → own ≡ laidOver m t (replicate recordSize 0) → length own ≡ recordSize
+    → length bs ≡ recordSize → r ≡ same (part own 0 112) (part bs 0 112) → r ≡ same (recordBytes m t) bs
+unfolding recordBytes
 whole-same own bs m t e k h p = p ∙ rw (part-whole own 112 k, part-whole bs 112 h, e)
 
 pub take-long : (bs : List ℕ) {r : Held} → (length bs ≡ recordSize → ⊥) → r ≡ noRecord → r ≡ recordOf bs

@@ -49,7 +49,7 @@ fn is_record(m: Message, t: Texts, bytes: &[u8]) -> bool
     ensures { λ r. ⌜ r ≡ same (recordBytes m t) (now (bytes .entry)) ⌝ }
 {
     let mut own = [0; 112];
-    put(m, t, &mut own);
+    lay::message(m, t, &mut own);
     field::equal(&own, 0, bytes, 0, RECORD_SIZE)
 }
 
