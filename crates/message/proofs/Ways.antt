@@ -61,9 +61,9 @@ module _ (l : Letter) (bs : List ℕ) where
 
 -- a record with no texts, of any kind: its letter makes the message that `says` makes of it
 module _ {A : Type 0} (l : Letter) (vs : List Value) (says : A → Message) (a : A) (made : l .makes vs ≡ says a) (bare : l .texts vs ≡ noTexts) where
-  pub judged-yes : {m : A} {t : Texts} {ok : Bool} → ok ≡ keepsAll (l .rows) vs → ok ≡ true → m ≡ a → t ≡ noTexts → accepted (says m) t ≡ readFields l vs
+  pub judged-yes : {m : A} {r : Reading} {ok : Bool} → ok ≡ keepsAll (l .rows) vs → ok ≡ true → m ≡ a → r ≡ accepted (says m) noTexts → r ≡ readFields l vs
   unfolding readFields
-  judged-yes p y is q = rw (← p, y, made, bare, is, q)
+  judged-yes p y is q = q ∙ rw (← p, y, made, bare, is)
 
 pub judged-no : (l : Letter) (vs : List Value) {ok : Bool} {r : Reading} → ok ≡ keepsAll (l .rows) vs → ok ≡ false → r ≡ refused BadField → r ≡ readFields l vs
 unfolding readFields
@@ -186,10 +186,11 @@ unfolding keepsAll
 directory-keeps m t p q = rw (p, q)
 
 -- the rules of a quote: its time, its condition, and the prices of four bytes
-module _ (x y : ℕ) {t d : ℕ} {a : Bool} (is-time : t ≡ x) (is-condition : d ≡ y) (p : a ≡ timeInRange t && listed conditions d) where
-  head : a ≡ timeInRange x && listed conditions y
-  head = p ∙ ap (λ v. timeInRange v && listed conditions d) is-time ∙ ap (λ v. timeInRange x && listed conditions v) is-condition
+pub quote-head : {x y t d : ℕ} {a : Bool} → t ≡ x → d ≡ y → a ≡ timeInRange t && listed conditions d → a ≡ timeInRange x && listed conditions y
+quote-head {x} {d = d} is-time is-condition p =
+    p ∙ ap (λ v. timeInRange v && listed conditions d) is-time ∙ ap (λ v. timeInRange x && listed conditions v) is-condition
 
+module _ (x y : ℕ) {a : Bool} (head : a ≡ timeInRange x && listed conditions y) where
   pub head-kept : (k : Bool) → k ≡ timeInRange x && (listed conditions y && true) → a ≡ k
   head-kept k e = head ∙ sym (simp and-true at e)
 

@@ -11,11 +11,24 @@ use crate::rules;
 use crate::take;
 use field::limits;
 ghost use mathlib.Core.Path.{_≡_};
+ghost use mathlib.Core.Bool.{_&&_};
 ghost use Prim.Native.Nat.{_≤_};
 ghost use lib.ListN.{length};
-ghost use Rattle.message.specs.Layout.{values};
-ghost use Rattle.message.specs.Letters.{letters, letterIn, directoryLetter, directoryRows, systemEventLetter, systemEventRows, tradingActionLetter, tradingActionRows, shortQuoteLetter, shortQuoteRows, longQuoteLetter, longQuoteRows, shortSideLetter, shortSideRows, longSideLetter, longSideRows, endOfReplayLetter, endOfReplayRows};
-ghost use Rattle.message.specs.Message.{Sized, readFields};
+ghost use Rattle.field.specs.Bytes.{part, be};
+ghost use Rattle.field.specs.Limits.{timeInRange};
+ghost use Rattle.message.specs.Layout.{values, keepsAll};
+ghost use Rattle.message.specs.Letters.{listed, conditions, noTexts, letters, letterIn, directoryLetter, directoryRows, systemEventLetter, systemEventRows, tradingActionLetter, tradingActionRows, shortQuoteLetter, shortQuoteRows, longQuoteLetter, longQuoteRows, shortSideLetter, shortSideRows, longSideLetter, longSideRows, endOfReplayLetter, endOfReplayRows};
+ghost use Rattle.message.specs.Message.{Sized, accepted, readFields};
+
+// A message that has no texts, read whole.
+fn whole(m: Message) -> Reading
+    ensures { λ r. ⌜ r ≡ accepted m noTexts ⌝ }
+{
+    Reading {
+        answer: Answer::Is(m),
+        texts: crate::no_texts(),
+    }
+}
 
 fn system_event(bytes: &[u8]) -> Reading
     requires { ⌜ 12 ≤ length (now bytes) ⌝ }
@@ -23,10 +36,7 @@ fn system_event(bytes: &[u8]) -> Reading
 {
     let m = take::system_event(bytes);
     if rules::keep_system_event(m) {
-        return Reading {
-            answer: Answer::Is(Message::SystemEvent(m)),
-            texts: crate::no_texts(),
-        };
+        return whole(Message::SystemEvent(m));
     }
     crate::refuse(Refusal::BadField)
 }
@@ -52,23 +62,43 @@ fn trading_action(bytes: &[u8]) -> Reading
 {
     let m = take::trading_action(bytes);
     if rules::keep_trading_action(m) {
-        return Reading {
-            answer: Answer::Is(Message::TradingAction(m)),
-            texts: crate::no_texts(),
-        };
+        return whole(Message::TradingAction(m));
     }
     crate::refuse(Refusal::BadField)
+}
+
+// The rules that every quote has, tested where it lies.
+fn keep_head(bytes: &[u8]) -> bool
+    requires { ⌜ 16 ≤ length (now bytes) ⌝ }
+    ensures { λ r. ⌜ r ≡ timeInRange (be (part (now (bytes .entry)) 3 8)) && listed conditions (be (part (now (bytes .entry)) 15 1)) ⌝ }
+{
+    rules::keep_head(take::time(bytes), take::condition(bytes))
+}
+
+fn keep_long_quote(bytes: &[u8]) -> bool
+    requires { ⌜ 56 ≤ length (now bytes) ⌝ }
+    ensures { λ r. ⌜ r ≡ keepsAll longQuoteRows (values longQuoteRows (now (bytes .entry))) ⌝ }
+{
+    keep_head(bytes)
+        & rules::keep_prices(
+            numbers::long_price(bytes, 16),
+            numbers::long_price(bytes, 36),
+        )
+}
+
+fn keep_long_side(bytes: &[u8]) -> bool
+    requires { ⌜ 36 ≤ length (now bytes) ⌝ }
+    ensures { λ r. ⌜ r ≡ keepsAll longSideRows (values longSideRows (now (bytes .entry))) ⌝ }
+{
+    keep_head(bytes) & limits::price_in_range(numbers::long_price(bytes, 16))
 }
 
 fn short_quote(bytes: &[u8]) -> Reading
     requires { ⌜ 36 ≤ length (now bytes) ⌝ }
     ensures { λ r. ⌜ r ≡ readFields shortQuoteLetter (values shortQuoteRows (now (bytes .entry))) ⌝ }
 {
-    if rules::keep_head(take::time(bytes), take::condition(bytes)) {
-        return Reading {
-            answer: Answer::Is(Message::ShortQuote(take::short_quote(bytes))),
-            texts: crate::no_texts(),
-        };
+    if keep_head(bytes) {
+        return whole(Message::ShortQuote(take::short_quote(bytes)));
     }
     crate::refuse(Refusal::BadField)
 }
@@ -77,16 +107,8 @@ fn long_quote(bytes: &[u8]) -> Reading
     requires { ⌜ 56 ≤ length (now bytes) ⌝ }
     ensures { λ r. ⌜ r ≡ readFields longQuoteLetter (values longQuoteRows (now (bytes .entry))) ⌝ }
 {
-    if rules::keep_head(take::time(bytes), take::condition(bytes))
-        & rules::keep_prices(
-            numbers::long_price(bytes, 16),
-            numbers::long_price(bytes, 36),
-        )
-    {
-        return Reading {
-            answer: Answer::Is(Message::LongQuote(take::long_quote(bytes))),
-            texts: crate::no_texts(),
-        };
+    if keep_long_quote(bytes) {
+        return whole(Message::LongQuote(take::long_quote(bytes)));
     }
     crate::refuse(Refusal::BadField)
 }
@@ -95,11 +117,8 @@ fn short_side(bytes: &[u8], side: Side) -> Reading
     requires { ⌜ 26 ≤ length (now bytes) ⌝ }
     ensures { λ r. ⌜ r ≡ readFields (shortSideLetter side) (values shortSideRows (now (bytes .entry))) ⌝ }
 {
-    if rules::keep_head(take::time(bytes), take::condition(bytes)) {
-        return Reading {
-            answer: Answer::Is(Message::ShortSide(take::short_side(bytes, side))),
-            texts: crate::no_texts(),
-        };
+    if keep_head(bytes) {
+        return whole(Message::ShortSide(take::short_side(bytes, side)));
     }
     crate::refuse(Refusal::BadField)
 }
@@ -108,13 +127,8 @@ fn long_side(bytes: &[u8], side: Side) -> Reading
     requires { ⌜ 36 ≤ length (now bytes) ⌝ }
     ensures { λ r. ⌜ r ≡ readFields (longSideLetter side) (values longSideRows (now (bytes .entry))) ⌝ }
 {
-    if rules::keep_head(take::time(bytes), take::condition(bytes))
-        & limits::price_in_range(numbers::long_price(bytes, 16))
-    {
-        return Reading {
-            answer: Answer::Is(Message::LongSide(take::long_side(bytes, side))),
-            texts: crate::no_texts(),
-        };
+    if keep_long_side(bytes) {
+        return whole(Message::LongSide(take::long_side(bytes, side)));
     }
     crate::refuse(Refusal::BadField)
 }
@@ -125,10 +139,7 @@ fn end_of_replay(bytes: &[u8]) -> Reading
 {
     let m = take::end_of_replay(bytes);
     if rules::keep_end_of_replay(m) {
-        return Reading {
-            answer: Answer::Is(Message::EndOfReplay(m)),
-            texts: crate::no_texts(),
-        };
+        return whole(Message::EndOfReplay(m));
     }
     crate::refuse(Refusal::BadField)
 }

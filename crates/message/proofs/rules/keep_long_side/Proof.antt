@@ -9,7 +9,7 @@ use Rattle.message.proofs.rules.keep_long_side.Tie as tie
 
 returns : tie.Need-returns
 unfolding keepsAll
-returns c = let m = c .before .before .args .m in side-kept (m .stamp .time) (m .condition) refl refl (c .before .keep-head .ensures) _ (m .numbers .price) refl refl (c .price-in-range .ensures)
+returns c = let m = c .before .before .args .m in side-kept (m .stamp .time) (m .condition) (c .before .keep-head .ensures) _ (m .numbers .price) refl refl (c .price-in-range .ensures)
 
 pub keep-long-side-spec : {M : Type 1} → statement M
 keep-long-side-spec = tie.close (tie.spec (λ c κs. search needs) (λ c κs. search needs) returns)

@@ -9,7 +9,7 @@ use Rattle.message.proofs.rules.keep_short_side.Tie as tie
 
 returns : tie.Need-returns
 unfolding keepsAll
-returns c = let m = c .before .args .m in head-kept (m .stamp .time) (m .condition) refl refl (c .keep-head .ensures) _ refl
+returns c = let m = c .before .args .m in head-kept (m .stamp .time) (m .condition) (c .keep-head .ensures) _ refl
 
 pub keep-short-side-spec : {M : Type 1} → statement M
 keep-short-side-spec = tie.close (tie.spec (λ c κs. search needs) returns)
