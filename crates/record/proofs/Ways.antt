@@ -105,9 +105,12 @@ module _ (bs : List ℕ) (said : Held) (h : length bs ≡ recordSize) (is : said
     as-is : confirmed (Is m) (said .texts) bs ≡ recordOf bs
     as-is = ap (λ (x : Taken). confirmed x (said .texts) bs) (sym e) ∙ as-said
 
-    pub take-yes : ok ≡ true → held m (said .texts) ≡ recordOf bs
+    as-held : said ≡ held m (said .texts)
+    as-held i = record { taken = e i; texts = said .texts }
+
+    pub take-yes : ok ≡ true → said ≡ recordOf bs
     unfolding confirmed
-    take-yes y = rw (← q, y) at as-is
+    take-yes y = as-held ∙ (rw (← q, y) at as-is)
 
     pub take-no : {r : Held} → ok ≡ false → r ≡ noRecord → r ≡ recordOf bs
     unfolding confirmed

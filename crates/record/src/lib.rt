@@ -67,10 +67,7 @@ pub fn take(bytes: &[u8]) -> Held
     match taken {
         Taken::Is(m) => {
             if is_record(m, t, bytes) {
-                return Held {
-                    taken: Taken::Is(m),
-                    texts: t,
-                };
+                return said;
             }
             none()
         }
