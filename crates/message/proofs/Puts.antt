@@ -78,12 +78,9 @@ pub text-put : (xs ys : List ℕ) (at n : ℕ) {zs : List ℕ} → length ys ≡
 text-put xs ys at n e p = p ∙ ap (overlay xs at) (part-whole ys n e)
 
 -- three marks of a byte each, side by side
-pub marks-put : (at : ℕ) (xs : List ℕ) (a b c : ℕ) {us vs zs : List ℕ} → at + 3 ≤ length xs
-    → us ≡ overlay xs at (bytesBe 1 a) → vs ≡ overlay us (at + 1) (bytesBe 1 b) → zs ≡ overlay vs (at + 2) (bytesBe 1 c)
-    → zs ≡ overlay xs at (bytesBe 1 a ++ (bytesBe 1 b ++ bytesBe 1 c))
-unfolding digits
-marks-put at xs a b c {us} {vs} {zs} h e f g =
-    run-joined xs at (piece 1 (bytesBe 1 a)) (piece 1 (bytesBe 1 b) ∷ piece 1 (bytesBe 1 c) ∷ []) (refl, (refl, (refl, tt))) h e (vs, f, (zs, g, refl))
+three-marks : (a b c : ℕ) → a < 256 → b < 256 → c < 256 → part (a ∷ b ∷ c ∷ []) 0 3 ≡ bytesBe 1 a ++ (bytesBe 1 b ++ bytesBe 1 c)
+unfolding part
+three-marks a b c p q r = rw (byte a p, byte b q, byte c r)
 
 abbrev dateBytes : Instrument → List ℕ
 dateBytes m = bytesBe 1 (m .year) ++ (bytesBe 1 (m .month) ++ bytesBe 1 (m .day))
@@ -105,20 +102,20 @@ market-length : (m : Instrument) (t : Texts) → length (t .underlying) ≡ 13 �
 unfolding digits
 market-length m t l k = rw (length-append, l, k)
 
-pub terms-put : (xs : List ℕ) (m : Instrument) (t : Texts) {us vs ws zs : List ℕ} → length (t .symbol) ≡ 8 → 20 ≤ length xs
-    → us ≡ overlay xs 4 (t .symbol) → vs ≡ overlay us 12 (dateBytes m) → ws ≡ overlay vs 15 (bytesBe 4 (m .strike)) → zs ≡ overlay ws 19 (bytesBe 1 (m .kind))
+pub terms-put : (xs : List ℕ) (m : Instrument) (t : Texts) {us vs ws zs : List ℕ} → m .year < 256 → m .month < 256 → m .day < 256 → length (t .symbol) ≡ 8 → 20 ≤ length xs
+    → us ≡ overlay xs 4 (t .symbol) → vs ≡ overlay us 12 (part (m .year ∷ m .month ∷ m .day ∷ []) 0 3) → ws ≡ overlay vs 15 (bytesBe 4 (m .strike)) → zs ≡ overlay ws 19 (bytesBe 1 (m .kind))
     → zs ≡ overlay xs 4 (termsBytes m t)
 unfolding digits
-terms-put xs m t {us} {vs} {ws} {zs} l h e f g i =
+terms-put xs m t {us} {vs} {ws} {zs} y o d l h e f g i =
     run-joined xs 4 (piece 8 (t .symbol)) (piece 3 (dateBytes m) ∷ piece 4 (bytesBe 4 (m .strike)) ∷ piece 1 (bytesBe 1 (m .kind)) ∷ [])
-    (l, (refl, (refl, (refl, tt)))) h e (vs, f, (ws, g, (zs, i, refl)))
+    (l, (refl, (refl, (refl, tt)))) h e (vs, f ∙ ap (overlay us 12) (three-marks (m .year) (m .month) (m .day) y o d), (ws, g, (zs, i, refl)))
 
-pub market-put : (xs : List ℕ) (m : Instrument) (t : Texts) {us vs zs : List ℕ} → length (t .underlying) ≡ 13 → length (t .reserved) ≡ 16 → 52 ≤ length xs
-    → us ≡ overlay xs 20 (t .underlying) → vs ≡ overlay us 33 (marksBytes m) → zs ≡ overlay vs 36 (t .reserved)
+pub market-put : (xs : List ℕ) (m : Instrument) (t : Texts) {us vs zs : List ℕ} → m .closing < 256 → m .tradable < 256 → m .variation < 256 → length (t .underlying) ≡ 13
+    → length (t .reserved) ≡ 16 → 52 ≤ length xs → us ≡ overlay xs 20 (t .underlying) → vs ≡ overlay us 33 (part (m .closing ∷ m .tradable ∷ m .variation ∷ []) 0 3) → zs ≡ overlay vs 36 (t .reserved)
     → zs ≡ overlay xs 20 (marketBytes m t)
 unfolding digits
-market-put xs m t {us} {vs} {zs} l k h e f g =
-    run-joined xs 20 (piece 13 (t .underlying)) (piece 3 (marksBytes m) ∷ piece 16 (t .reserved) ∷ []) (l, (refl, (k, tt))) h e (vs, f, (zs, g, refl))
+market-put xs m t {us} {vs} {zs} a b d l k h e f g =
+    run-joined xs 20 (piece 13 (t .underlying)) (piece 3 (marksBytes m) ∷ piece 16 (t .reserved) ∷ []) (l, (refl, (k, tt))) h e (vs, f ∙ ap (overlay us 33) (three-marks (m .closing) (m .tradable) (m .variation) a b d), (zs, g, refl))
     ∙ ap (λ (r : List ℕ). overlay xs 20 (t .underlying ++ (marksBytes m ++ r))) (append-nil (t .reserved))
 
 pub instrument-put : (xs : List ℕ) (m : Instrument) (t : Texts) {us vs zs : List ℕ} → length (t .symbol) ≡ 8 → length (t .underlying) ≡ 13 → length (t .reserved) ≡ 16

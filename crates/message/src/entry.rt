@@ -107,18 +107,6 @@ fn reserved(out: &mut [u8], t: Texts)
     field::copy(&reserved, 0, 16, out, 36);
 }
 
-fn date(out: &mut [u8], m: Instrument)
-    requires { ⌜ 15 ≤ length (now out) ⌝ }
-    ensures { λ r. ⌜
-        now (out .exit)
-        ≡ overlay (now (out .entry)) 12 (bytesBe 1 (m .year) ++ (bytesBe 1 (m .month) ++ bytesBe 1 (m .day)))
-        ⌝ }
-{
-    field::write1(out, 12, m.year);
-    field::write1(out, 13, m.month);
-    field::write1(out, 14, m.day);
-}
-
 // The fields that may not change: symbol, date, strike and type.
 fn terms(out: &mut [u8], m: Instrument, t: Texts)
     requires { ⌜ 20 ≤ length (now out) ⌝ }
@@ -130,22 +118,11 @@ fn terms(out: &mut [u8], m: Instrument, t: Texts)
         ++ (bytesBe 4 (m .strike) ++ bytesBe 1 (m .kind))))
         ⌝ }
 {
+    let date = [m.year, m.month, m.day];
     symbol(out, t);
-    date(out, m);
+    field::copy(&date, 0, 3, out, 12);
     field::write4(out, 15, m.strike);
     field::write1(out, 19, m.kind);
-}
-
-fn marks(out: &mut [u8], m: Instrument)
-    requires { ⌜ 36 ≤ length (now out) ⌝ }
-    ensures { λ r. ⌜
-        now (out .exit)
-        ≡ overlay (now (out .entry)) 33 (bytesBe 1 (m .closing) ++ (bytesBe 1 (m .tradable) ++ bytesBe 1 (m .variation)))
-        ⌝ }
-{
-    field::write1(out, 33, m.closing);
-    field::write1(out, 34, m.tradable);
-    field::write1(out, 35, m.variation);
 }
 
 // The fields that may change: underlying, closing, tradable, variation and reserved.
@@ -158,8 +135,9 @@ fn market(out: &mut [u8], m: Instrument, t: Texts)
         ++ ((bytesBe 1 (m .closing) ++ (bytesBe 1 (m .tradable) ++ bytesBe 1 (m .variation))) ++ t .reserved))
         ⌝ }
 {
+    let marks = [m.closing, m.tradable, m.variation];
     underlying(out, t);
-    marks(out, m);
+    field::copy(&marks, 0, 3, out, 33);
     reserved(out, t);
 }
 
