@@ -78,7 +78,7 @@ pub text-put : (xs ys : List ℕ) (at n : ℕ) {zs : List ℕ} → length ys ≡
 text-put xs ys at n e p = p ∙ ap (overlay xs at) (part-whole ys n e)
 
 -- three marks of a byte each, side by side
-three-marks : (a b c : ℕ) → a < 256 → b < 256 → c < 256 → part (a ∷ b ∷ c ∷ []) 0 3 ≡ bytesBe 1 a ++ (bytesBe 1 b ++ bytesBe 1 c)
+pub three-marks : (a b c : ℕ) → a < 256 → b < 256 → c < 256 → part (a ∷ b ∷ c ∷ []) 0 3 ≡ bytesBe 1 a ++ (bytesBe 1 b ++ bytesBe 1 c)
 unfolding part
 three-marks a b c p q r = rw (byte a p, byte b q, byte c r)
 

@@ -1,12 +1,13 @@
 -- The writers: each field is laid over what the fields before it left.
 -- Assumes nothing.
 use mathlib.Core.Path.{_≡_, refl, sym, ap, _∙_}
-use mathlib.Core.List.{List, _∷_}
-use Prim.Native.Nat.{ℕ, _+_, _≤_}
+use mathlib.Core.List.{List, [], _∷_}
+use Prim.Native.Nat.{ℕ, _+_, _≤_, _<_}
 use native.Mathlib.Omega.{arith}
 use lib.ListN.{length, replicate, length-replicate}
-use Rattle.field.specs.Bytes.{overlay, digits, bytesBe}
+use Rattle.field.specs.Bytes.{part, overlay, digits, bytesBe}
 use Rattle.field.proofs.Parts.{overlay-length, overlay-whole}
+use Rattle.field.proofs.Writes.{piece, run-joined}
 use Rattle.message.specs.Layout.{num, bytesFor}
 use Rattle.message.specs.Letters.{stampFields, quoteFields, shortNumbersFields, longNumbersRows, longNumbersFields, systemEventFields, directoryFields, shortQuoteFields, longQuoteFields, shortSideCode, shortSideFields, longSideCode, longSideFields, endOfReplayFields}
 use Rattle.message.specs.declared.Stamp.{Stamp}
@@ -22,9 +23,9 @@ use Rattle.message.specs.declared.LongSide.{LongSide}
 use Rattle.message.specs.declared.EndOfReplay.{EndOfReplay}
 use Rattle.message.specs.declared.Message.{Message}
 use Rattle.message.specs.declared.Texts.{Texts}
-use Rattle.message.proofs.Puts.{long-numbers-put}
-use Rattle.record.specs.Places.{recordSize, letterPlace, stampPlaces, headPlaces, sideAt, shortPlaces, longPlaces, datePlaces, marksPlaces, termsPlaces, marketPlaces, systemEventPlaces, directoryPlaces, shortQuotePlaces, longQuotePlaces, shortSidePlaces, longSidePlaces, endOfReplayPlaces}
-use Rattle.record.specs.Record.{laid, laidOver, recordBytes, dateFields, marksFields, termsFields, marketFields}
+use Rattle.message.proofs.Puts.{three-marks, long-numbers-put}
+use Rattle.record.specs.Places.{recordSize, number, letterPlace, stampPlaces, headPlaces, sideAt, shortPlaces, longPlaces, termsPlaces, marketPlaces, systemEventPlaces, directoryPlaces, shortQuotePlaces, longQuotePlaces, shortSidePlaces, longSidePlaces, endOfReplayPlaces}
+use Rattle.record.specs.Record.{laid, laidOver, recordBytes, termsFields, marketFields}
 use Rattle.record.proofs.Laid.{inside, laid-length}
 
 pub stamp-laid : (xs : List ℕ) (l : ℕ) (s : Stamp) {us vs zs : List ℕ} → us ≡ overlay xs 0 (bytesBe 1 l) → vs ≡ overlay us 2 (bytesBe 2 (s .tracking))
@@ -58,26 +59,24 @@ head-length xs l s id code h =
 -- ---- an instrument
 
 -- three bytes side by side
-pub date-laid : (xs : List ℕ) (i : Instrument) {us vs zs : List ℕ} → us ≡ overlay xs 68 (bytesBe 1 (i .year)) → vs ≡ overlay us 69 (bytesBe 1 (i .month))
-    → zs ≡ overlay vs 70 (bytesBe 1 (i .day)) → zs ≡ laid datePlaces (dateFields i) xs
-unfolding laid
-date-laid xs i e f g = rw (g, f, e)
+three-laid : (xs : List ℕ) (at a b c : ℕ) → a < 256 → b < 256 → c < 256 → at + 3 ≤ length xs
+    → overlay xs at (part (a ∷ b ∷ c ∷ []) 0 3) ≡ laid (number at 1 ∷ number (at + 1) 1 ∷ number (at + 2) 1 ∷ []) (num a ∷ num b ∷ num c ∷ []) xs
+unfolding laid digits
+three-laid xs at a b c p q r h =
+    ap (overlay xs at) (three-marks a b c p q r)
+    ∙ sym (run-joined xs at (piece 1 (bytesBe 1 a)) (piece 1 (bytesBe 1 b) ∷ piece 1 (bytesBe 1 c) ∷ []) (refl, (refl, (refl, tt))) h refl (_, refl, (_, refl, refl)))
 
-pub marks-laid : (xs : List ℕ) (i : Instrument) {us vs zs : List ℕ} → us ≡ overlay xs 72 (bytesBe 1 (i .closing)) → vs ≡ overlay us 73 (bytesBe 1 (i .tradable))
-    → zs ≡ overlay vs 74 (bytesBe 1 (i .variation)) → zs ≡ laid marksPlaces (marksFields i) xs
+pub terms-laid : (xs : List ℕ) (i : Instrument) (t : Texts) {us vs ws ys zs : List ℕ} → i .year < 256 → i .month < 256 → i .day < 256
+    → us ≡ overlay xs 4 (bytesBe 4 (i .id)) → vs ≡ overlay us 75 (t .symbol) → ws ≡ overlay vs 68 (part (i .year ∷ i .month ∷ i .day ∷ []) 0 3) → 71 ≤ length vs
+    → ys ≡ overlay ws 64 (bytesBe 4 (i .strike)) → zs ≡ overlay ys 71 (bytesBe 1 (i .kind)) → zs ≡ laid termsPlaces (termsFields i t) xs
 unfolding laid
-marks-laid xs i e f g = rw (g, f, e)
+terms-laid xs i t {us} {vs} a b c e f g l h j = rw (j, h, g, three-laid vs 68 (i .year) (i .month) (i .day) a b c l, f, e)
 
-pub terms-laid : (xs : List ℕ) (i : Instrument) (t : Texts) {us vs ws ys zs : List ℕ} → us ≡ overlay xs 4 (bytesBe 4 (i .id)) → vs ≡ overlay us 75 (t .symbol)
-    → ws ≡ laid datePlaces (dateFields i) vs → ys ≡ overlay ws 64 (bytesBe 4 (i .strike)) → zs ≡ overlay ys 71 (bytesBe 1 (i .kind))
-    → zs ≡ laid termsPlaces (termsFields i t) xs
-unfolding laid
-terms-laid xs i t e f g h j = rw (j, h, g, f, e)
-
-pub market-laid : (xs : List ℕ) (i : Instrument) (t : Texts) {us vs zs : List ℕ} → us ≡ overlay xs 83 (t .underlying) → vs ≡ laid marksPlaces (marksFields i) us
+pub market-laid : (xs : List ℕ) (i : Instrument) (t : Texts) {us vs zs : List ℕ} → i .closing < 256 → i .tradable < 256 → i .variation < 256
+    → us ≡ overlay xs 83 (t .underlying) → vs ≡ overlay us 72 (part (i .closing ∷ i .tradable ∷ i .variation ∷ []) 0 3) → 75 ≤ length us
     → zs ≡ overlay vs 96 (t .reserved) → zs ≡ laid marketPlaces (marketFields i t) xs
 unfolding laid
-market-laid xs i t e f g = rw (g, f, e)
+market-laid xs i t {us} a b c e f l g = rw (g, f, three-laid us 72 (i .closing) (i .tradable) (i .variation) a b c l, e)
 
 -- ---- messages
 

@@ -21,8 +21,8 @@ ghost use lib.ListN.{length};
 ghost use Rattle.field.specs.Bytes.{overlay};
 ghost use Rattle.message.specs.Layout.{num};
 ghost use Rattle.message.specs.Letters.{shortSideCode, longSideCode, stampFields, quoteFields, shortNumbersFields, systemEventFields, directoryFields, tradingActionFields, shortQuoteFields, longQuoteFields, shortSideFields, longSideFields, endOfReplayFields};
-ghost use Rattle.record.specs.Places.{recordSize, letterPlace, stampPlaces, headPlaces, sideAt, shortPlaces, datePlaces, marksPlaces, termsPlaces, marketPlaces, systemEventPlaces, directoryPlaces, shortQuotePlaces, longQuotePlaces, shortSidePlaces, longSidePlaces, endOfReplayPlaces};
-ghost use Rattle.record.specs.Record.{laid, laidOver, dateFields, marksFields, termsFields, marketFields};
+ghost use Rattle.record.specs.Places.{recordSize, letterPlace, stampPlaces, headPlaces, sideAt, shortPlaces, termsPlaces, marketPlaces, systemEventPlaces, directoryPlaces, shortQuotePlaces, longQuotePlaces, shortSidePlaces, longSidePlaces, endOfReplayPlaces};
+ghost use Rattle.record.specs.Record.{laid, laidOver, termsFields, marketFields};
 
 fn stamp(out: &mut [u8], letter: u8, s: Stamp)
     requires { ⌜ recordSize ≤ length (now out) ⌝ }
@@ -64,24 +64,6 @@ fn system_event(out: &mut [u8], m: SystemEvent)
     field::write1(out, 1, m.code);
 }
 
-fn date(out: &mut [u8], i: Instrument)
-    requires { ⌜ recordSize ≤ length (now out) ⌝ }
-    ensures { λ _. ⌜ now (out .exit) ≡ laid datePlaces (dateFields i) (now (out .entry)) ⌝ }
-{
-    field::write1(out, 68, i.year);
-    field::write1(out, 69, i.month);
-    field::write1(out, 70, i.day);
-}
-
-fn marks(out: &mut [u8], i: Instrument)
-    requires { ⌜ recordSize ≤ length (now out) ⌝ }
-    ensures { λ _. ⌜ now (out .exit) ≡ laid marksPlaces (marksFields i) (now (out .entry)) ⌝ }
-{
-    field::write1(out, 72, i.closing);
-    field::write1(out, 73, i.tradable);
-    field::write1(out, 74, i.variation);
-}
-
 fn symbol(out: &mut [u8], t: Texts)
     requires { ⌜ recordSize ≤ length (now out) ⌝ }
     ensures { λ _. ⌜ now (out .exit) ≡ overlay (now (out .entry)) 75 (t .symbol) ⌝ }
@@ -111,9 +93,10 @@ fn terms(out: &mut [u8], i: Instrument, t: Texts)
     requires { ⌜ recordSize ≤ length (now out) ⌝ }
     ensures { λ _. ⌜ now (out .exit) ≡ laid termsPlaces (termsFields i t) (now (out .entry)) ⌝ }
 {
+    let date = [i.year, i.month, i.day];
     field::write4(out, 4, i.id);
     symbol(out, t);
-    date(out, i);
+    field::copy(&date, 0, 3, out, 68);
     field::write4(out, 64, i.strike);
     field::write1(out, 71, i.kind);
 }
@@ -123,8 +106,9 @@ fn market(out: &mut [u8], i: Instrument, t: Texts)
     requires { ⌜ recordSize ≤ length (now out) ⌝ }
     ensures { λ _. ⌜ now (out .exit) ≡ laid marketPlaces (marketFields i t) (now (out .entry)) ⌝ }
 {
+    let marks = [i.closing, i.tradable, i.variation];
     underlying(out, t);
-    marks(out, i);
+    field::copy(&marks, 0, 3, out, 72);
     reserved(out, t);
 }
 
