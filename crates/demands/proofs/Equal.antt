@@ -10,8 +10,8 @@ use Rattle.packet.specs.Session as packets
 use Rattle.packet.specs.Session.{Session, Event}
 use Rattle.reader.specs.Refusals.{refusalNumber, namedIn, named}
 use Rattle.reader.specs.Deliver.{Table, Said}
-use Rattle.reader.specs.View.{eventOf, answerOf, stateOf, Seen, seenOf, heldIn, sessionOf}
-use Rattle.reader.specs.Calls.{Stepping, Starting, Begun, begunOf, startNumber}
+use Rattle.reader.specs.View.{eventOf, answerOf, stateOf, Seen, seenOf, steppedWith, heldIn, sessionOf}
+use Rattle.reader.specs.Calls.{Stepping, Lent, lentOf, LentStepping, Starting, Begun, begunOf, startNumber}
 use Rattle.image.specs.Save.{Saving, saving}
 use Rattle.image.specs.declared.Saved.{Saved}
 use Rattle.reader.specs.Saving.{Saves, Came, cameOf, Restores}
@@ -27,6 +27,8 @@ use Rattle.reader.specs.declared.StartAnswer.{StartAnswer}
 use Rattle.reader.specs.declared.StartAnswer.the-variants as started
 use Rattle.reader.specs.declared.Reader.{Reader}
 use Rattle.reader.specs.declared.Stepped.{Stepped}
+use Rattle.reader.specs.declared.Moved.{Moved}
+use Rattle.handle.specs.declared.Head.{Head}
 use Rattle.reader.specs.declared.Started.{Started}
 use Rattle.reader.proofs.Ways.{some-number}
 use Rattle.demands.specs.Same.{SameReader, SameStep, SameStart, SameRestore}
@@ -116,6 +118,33 @@ same-steps a b t t′ e =
 pub equal-steps : (r : Reader) (t piece : List ℕ) (a b : Stepped) (t₁ t₂ : List ℕ) → Stepping r t piece a t₁ → Stepping r t piece b t₂ → SameStep a b t₁ t₂
 equal-steps r t piece a b t₁ t₂ x y = same-steps a b t₁ t₂ (equal-answers x y)
 
+-- THEOREM, of a step on lent places: all of it agrees, and every place of held bytes
+pub equal-lent-steps : (h : Head) (held t piece : List ℕ) (a b : Moved) (held₁ t₁ held₂ t₂ : List ℕ) → LentStepping h held t piece a held₁ t₁
+    → LentStepping h held t piece b held₂ t₂ → (a ≡ b) × (held₁ ≡ held₂) × (t₁ ≡ t₂)
+equal-lent-steps h held t piece a b held₁ t₁ held₂ t₂ x y =
+    let e : lentOf a held₁ t₁ ≡ lentOf b held₂ t₂ = equal-answers x y in
+    let s = same-steps (steppedWith a held₁) (steppedWith b held₂) t₁ t₂ (ap (λ (l : Lent). l .call) e) in (
+      (λ i.
+      record {
+        head = record {
+          line = s .reader .line i;
+          board = s .reader .board i;
+          ended = s .reader .ended i;
+          refusal = s .reader .refusal i;
+          used = s .reader .used i;
+        };
+        taken = s .taken i;
+        answer = s .answer i;
+        texts = s .texts i;
+      }),
+      ap (λ (l : Lent). l .held) e,
+      s .memory,
+    )
+
+-- THEOREM, of a refusal by name: what is promised of its number fixes it
+pub equal-names : (r q : Refusal) → refusalNumber r ≡ refusalNumber q → r ≡ q
+equal-names r q e = sym (name-back r) ∙ ap named e ∙ name-back q
+
 -- ---- of starting
 
 some-name : (r : Refusal) → refusalNumber r ≡ 0 → ⊥
@@ -125,7 +154,7 @@ answers-same : (a b : StartAnswer) → startNumber a ≡ startNumber b → a ≡
 answers-same started.Ready started.Ready e = refl
 answers-same started.Ready (started.Refused r) e = absurd (some-name r (sym e))
 answers-same (started.Refused r) started.Ready e = absurd (some-name r e)
-answers-same (started.Refused r) (started.Refused q) e = ap started.Refused (sym (name-back r) ∙ ap named e ∙ name-back q)
+answers-same (started.Refused r) (started.Refused q) e = ap started.Refused (equal-names r q e)
 
 -- THEOREM, of starting
 pub equal-starts : (t : List ℕ) (a b : Started) (t₁ t₂ : List ℕ) → Starting t a t₁ → Starting t b t₂ → SameStart a b t₁ t₂
