@@ -1,0 +1,949 @@
+/* Runs the cases of vectors.txt, by the library and by the plain reader, and
+ * prints each that did not come as it is written there. The text says what a
+ * line is; here each command is a function that tells what came in words. */
+#include "nelqubat.h"
+#include "oracle.h"
+
+#include <ctype.h>
+#include <stdarg.h>
+#include <stdbool.h>
+#include <stdio.h>
+#include <stdlib.h>
+#include <string.h>
+
+enum {
+    ROOM = 1 << 16,       /* of a memory, a line's words and the text */
+    LOG_ROOM = 1 << 20,
+    PACKETS = 64,
+    NAME_ROOM = 32
+};
+
+struct memory {
+    size_t n;
+    uint8_t bytes[ROOM];
+};
+
+/* The memories that a text can name, and those beside them. */
+enum place { HANDLE, TABLE, EVENT, RECORD, IMAGE, OUT, SPARE, NAMED, GIVEN = NAMED, PLACES };
+
+static const char *const memory_names[NAMED] = {
+    "handle", "table", "event", "record", "image", "out", "spare"};
+
+/* The calls under test: the library's, or the same over the plain reader. */
+struct calls {
+    const char *name;
+    uint32_t (*start)(uint8_t *, size_t, uint8_t *, size_t);
+    uint32_t (*step)(uint8_t *, size_t, uint8_t *, size_t, const uint8_t *, size_t, uint8_t *, size_t);
+    uint32_t (*save)(const uint8_t *, size_t, const uint8_t *, size_t, uint8_t *, size_t);
+    uint32_t (*restore)(uint8_t *, size_t, uint8_t *, size_t, const uint8_t *, size_t);
+    uint32_t (*read)(const uint8_t *, size_t, uint8_t *, size_t);
+    uint32_t (*write)(const uint8_t *, size_t, uint8_t *, size_t);
+    uint32_t (*line)(const uint8_t *, size_t, const uint8_t *, size_t, size_t, uint8_t *, size_t);
+};
+
+static const struct calls both[2] = {
+    {"library", nelqubat_start, nelqubat_step, nelqubat_save, nelqubat_restore, nelqubat_read, nelqubat_write, nelqubat_line},
+    {"plain reader", oracle_start, oracle_step, oracle_save, oracle_restore, oracle_read, oracle_write, oracle_line}};
+
+static const struct calls *calls;
+static struct memory memories[PLACES];
+static struct memory kept[2];  /* handle and table that a case starts from */
+static struct memory whole[2]; /* those that a run in one piece left */
+static uint8_t tape[LOG_ROOM], whole_tape[LOG_ROOM];
+static size_t tape_n, whole_tape_n, events;
+
+static struct packet {
+    char name[NAME_ROOM];
+    struct memory bytes;
+} packets[PACKETS];
+static size_t packet_count;
+
+static char came[ROOM]; /* what came of a line, in words */
+static size_t came_n;
+static bool broken;     /* the line cannot be run */
+static bool checked;    /* the bytes given had the item `checked` */
+static size_t base;     /* where the packet or memory that was named last begins */
+
+/* ---- words */
+
+static void add(const char *format, ...)
+{
+    va_list list;
+    va_start(list, format);
+    int n = vsnprintf(came + came_n, sizeof came - came_n, format, list);
+    va_end(list);
+    if (n < 0 || (size_t)n >= sizeof came - came_n)
+        broken = true;
+    else
+        came_n += (size_t)n;
+}
+
+/* A comma, unless nothing came so far or it goes on after a space. */
+static void tell(const char *words)
+{
+    if (came_n != 0 && came[came_n - 1] != ' ')
+        add(", ");
+    add("%s", words);
+}
+
+static void fault(const char *words)
+{
+    broken = true;
+    tell(words);
+}
+
+static void tell_left(const char *what, bool is_left)
+{
+    tell(what);
+    add(is_left ? " left" : " CHANGED");
+}
+
+static void tell_same(bool is_same)
+{
+    tell(is_same ? "the same" : "DIFFERENT");
+}
+
+static void tell_count(size_t n, const char *words)
+{
+    tell("");
+    add("%zu %s", n, words);
+}
+
+/* ---- memories */
+
+static bool same(const struct memory *a, const struct memory *b)
+{
+    return a->n == b->n && memcmp(a->bytes, b->bytes, a->n) == 0;
+}
+
+static void fill_memory(struct memory *m, size_t n, uint8_t byte)
+{
+    if (n > ROOM) {
+        fault("? room");
+        return;
+    }
+    m->n = n;
+    memset(m->bytes, byte, n);
+}
+
+static void append(const uint8_t *bytes, size_t n)
+{
+    struct memory *given = &memories[GIVEN];
+    if (n > ROOM - given->n) {
+        fault("? room");
+        return;
+    }
+    memcpy(given->bytes + given->n, bytes, n);
+    given->n += n;
+}
+
+static uint64_t number_at(const struct memory *m, size_t at)
+{
+    if (at + 8 > m->n)
+        fault("? place");
+    return nelqubat_get(m->bytes + at, 8);
+}
+
+/* The check of a block, by its definition. */
+static void put_check(uint8_t *block)
+{
+    uint32_t sum = 0;
+    for (uint32_t i = 0; i < 510; i++)
+        sum += (i + 1) * block[i];
+    nelqubat_set(block + 510, 2, sum % 65521);
+}
+
+/* ---- bytes as the text writes them */
+
+/* The next word of a line, cut off in place; "" at its end. A text in quotes
+ * is one word with what stands before it. */
+static char *next_word(char **line)
+{
+    char *s = *line + strspn(*line, " ");
+    char *end = s + strcspn(s, " \"");
+    if (*end == '"') {
+        char *close = strchr(end + 1, '"');
+        end = close ? close + 1 : end + strlen(end);
+    }
+    *line = end + (*end != 0);
+    *end = 0;
+    return s;
+}
+
+static bool is_number(const char *s, size_t *n)
+{
+    char *end;
+    if (!isdigit((unsigned char)*s))
+        return false;
+    *n = strtoul(s, &end, 10);
+    return *end == 0 && *n < ROOM;
+}
+
+static size_t next_number(char **line)
+{
+    size_t n = 0;
+    if (!is_number(next_word(line), &n))
+        fault("? number");
+    return n;
+}
+
+static bool is_pair(const char *s, uint8_t *byte)
+{
+    char two[3] = {s[0], s[0] ? s[1] : 0, 0};
+    if (!isxdigit((unsigned char)two[0]) || !isxdigit((unsigned char)two[1]))
+        return false;
+    *byte = (uint8_t)strtoul(two, 0, 16);
+    return true;
+}
+
+/* Hex pairs, a text, or a pair so many times. */
+static bool lay_plain(const char *s)
+{
+    uint8_t byte = 0;
+    size_t n = strlen(s);
+    if (*s == '"' && n >= 2 && s[n - 1] == '"') {
+        append((const uint8_t *)s + 1, n - 2);
+        return true;
+    }
+    if (n > 3 && s[2] == '*' && is_pair(s, &byte) && is_number(s + 3, &n)) {
+        while (n-- > 0)
+            append(&byte, 1);
+        return true;
+    }
+    if (n % 2 != 0)
+        return false;
+    for (; *s; s += 2) {
+        if (!is_pair(s, &byte))
+            return false;
+        append(&byte, 1);
+    }
+    return true;
+}
+
+/* PLACE:BYTES puts bytes in, counted from the base. */
+static bool lay_edit(char *s)
+{
+    struct memory *given = &memories[GIVEN];
+    size_t at, n = given->n;
+    char *colon = strchr(s, ':');
+    *colon = 0;
+    if (!is_number(s, &at) || !lay_plain(colon + 1))
+        return false;
+    size_t more = given->n - n;
+    given->n = n;
+    if (base + at + more > n)
+        return false;
+    memmove(given->bytes + base + at, given->bytes + n, more);
+    return true;
+}
+
+/* N- drops the first N bytes of all that is given, -N the last. */
+static bool lay_drop(char *s)
+{
+    struct memory *given = &memories[GIVEN];
+    size_t less;
+    bool is_last = *s == '-';
+    if (is_last)
+        s++;
+    else
+        s[strlen(s) - 1] = 0;
+    if (!is_number(s, &less) || less > given->n)
+        return false;
+    given->n -= less;
+    if (!is_last)
+        memmove(given->bytes, given->bytes + less, given->n);
+    return true;
+}
+
+static bool find_memory(const char *name, enum place *place)
+{
+    for (size_t i = 0; i < NAMED; i++)
+        if (strcmp(name, memory_names[i]) == 0) {
+            *place = (enum place)i;
+            return true;
+        }
+    return false;
+}
+
+static struct packet *find_packet(const char *name)
+{
+    for (size_t i = 0; i < packet_count; i++)
+        if (strcmp(name, packets[i].name) == 0)
+            return &packets[i];
+    return 0;
+}
+
+static bool lay_named(const char *s)
+{
+    enum place place;
+    const struct packet *packet = find_packet(s);
+    if (!packet && !find_memory(s, &place))
+        return lay_plain(s);
+    const struct memory *m = packet ? &packet->bytes : &memories[place];
+    base = memories[GIVEN].n;
+    append(m->bytes, m->n);
+    return true;
+}
+
+static bool lay_checked(void)
+{
+    struct memory *given = &memories[GIVEN];
+    checked = true;
+    for (size_t at = 0; at + 512 <= given->n; at += 512)
+        put_check(given->bytes + at);
+    return true;
+}
+
+static bool lay_item(char *s)
+{
+    if (*s == '"')
+        return lay_plain(s);
+    if (strchr(s, ':'))
+        return lay_edit(s);
+    if (*s == '-' || s[strlen(s) - 1] == '-')
+        return lay_drop(s);
+    if (strcmp(s, "checked") == 0)
+        return lay_checked();
+    return lay_named(s);
+}
+
+/* All items of the rest of a command, laid one behind the other. */
+static void lay(char *line)
+{
+    memories[GIVEN].n = 0;
+    base = 0;
+    checked = false;
+    for (char *s = next_word(&line); *s; s = next_word(&line))
+        if (!lay_item(s))
+            fault("? bytes");
+}
+
+/* ---- calls */
+
+static unsigned kind_of(uint32_t answer)
+{
+    return answer / 256 % 256;
+}
+
+static uint32_t call_step(const uint8_t *piece, size_t n)
+{
+    struct memory *handle = &memories[HANDLE], *table = &memories[TABLE], *event = &memories[EVENT];
+    return calls->step(handle->bytes, handle->n, table->bytes, table->n, piece, n, event->bytes, event->n);
+}
+
+static uint32_t call_start(void)
+{
+    tape_n = events = 0;
+    return calls->start(memories[HANDLE].bytes, memories[HANDLE].n, memories[TABLE].bytes, memories[TABLE].n);
+}
+
+static uint32_t call_restore(const uint8_t *image, size_t n)
+{
+    return calls->restore(memories[HANDLE].bytes, memories[HANDLE].n, memories[TABLE].bytes, memories[TABLE].n, image, n);
+}
+
+static uint32_t call_save(void)
+{
+    return calls->save(memories[HANDLE].bytes, memories[HANDLE].n, memories[TABLE].bytes, memories[TABLE].n,
+                       memories[OUT].bytes, memories[OUT].n);
+}
+
+/* Kind, refusal and event memory, so that two runs that tell the same have the same tape. */
+static void note(uint32_t answer)
+{
+    struct memory *event = &memories[EVENT];
+    if (tape_n + 2 + event->n > LOG_ROOM) {
+        fault("? tape");
+        return;
+    }
+    nelqubat_set(tape + tape_n, 2, answer % 65536);
+    memcpy(tape + tape_n + 2, event->bytes, event->n);
+    tape_n += 2 + event->n;
+    events += kind_of(answer) < NELQUBAT_ENDED;
+}
+
+/* Steps through bytes in pieces of one size, until the reader takes no more. */
+static void feed(const uint8_t *bytes, size_t n, size_t size)
+{
+    for (size_t at = 0, end = 0; at < n;) {
+        if (at >= end)
+            end = size < n - at ? at + size : n;
+        memset(memories[EVENT].bytes, 0, memories[EVENT].n);
+        uint32_t answer = call_step(bytes + at, end - at);
+        at += nelqubat_taken(answer);
+        if (kind_of(answer) != NELQUBAT_MORE)
+            note(answer);
+        if (kind_of(answer) >= NELQUBAT_ENDED)
+            return;
+    }
+}
+
+static void feed_given(size_t size)
+{
+    feed(memories[GIVEN].bytes, memories[GIVEN].n, size);
+}
+
+/* ---- what is told of an answer */
+
+static void tell_step(uint32_t answer)
+{
+    static const char *const kinds[] = {
+        "more wanted", "login ", "rejected ", 0, "heartbeat", "end", "skipped", "ended", "refused "};
+    static const char *const messages[] = {
+        "Ssystem event", "mdirectory", "Htrading action", "qshort quote", "Qlong quote",
+        "bshort side", "ashort side", "Blong side", "Along side", "Mend of replay"};
+    unsigned kind = kind_of(answer);
+    const char *words = kind <= NELQUBAT_REFUSED && kinds[kind] ? kinds[kind] : "no such kind";
+    if (kind == NELQUBAT_MESSAGE)
+        for (size_t i = 0; i < sizeof messages / sizeof *messages; i++)
+            if (messages[i][0] == (char)memories[EVENT].bytes[0])
+                words = messages[i] + 1;
+    tell(words);
+    if (kind == NELQUBAT_LOGIN)
+        add("%llu", (unsigned long long)nelqubat_get(memories[EVENT].bytes, 8));
+    if (kind == NELQUBAT_REJECTED)
+        add("%u", memories[EVENT].bytes[0]);
+    if (kind == NELQUBAT_REFUSED)
+        add("%u", answer % 256);
+    tell_count(answer / 65536, "taken");
+}
+
+static void tell_refusal(uint32_t answer, const char *words)
+{
+    tell(answer % 256 == 0 ? words : "refused ");
+    if (answer % 256 != 0)
+        add("%u", answer % 256);
+}
+
+/* What was written to bytes ee, and are those behind it left? The memory then has what was written. */
+static void tell_output(uint32_t answer)
+{
+    struct memory *out = &memories[OUT];
+    size_t n = answer / 256;
+    bool is_left = n <= out->n;
+    for (size_t i = n; i < out->n; i++)
+        is_left &= out->bytes[i] == 0xee;
+    if (answer % 256 == 0)
+        tell_count(n, "written");
+    else
+        tell_refusal(answer, "");
+    tell_left("rest", is_left);
+    out->n = n < out->n ? n : out->n;
+}
+
+/* ---- handles, compared */
+
+/* All but the standing refusal and what is held; and nothing is held. */
+static bool handle_left(void)
+{
+    const uint8_t *a = memories[HANDLE].bytes, *b = kept[HANDLE].bytes;
+    return memcmp(a, b, 24) == 0 && memcmp(a + 32, b + 32, 13) == 0 && a[46] == b[46] && number_at(&memories[HANDLE], 24) == 0;
+}
+
+/* Places past the held bytes don't count. */
+static bool same_reader(const struct memory *a, const struct memory *b)
+{
+    uint64_t held = number_at(a, 24);
+    return held > 258 ? same(a, b) : a->n == b->n && memcmp(a->bytes, b->bytes, 47 + (size_t)held) == 0;
+}
+
+static bool as_whole(void)
+{
+    return same_reader(&memories[HANDLE], &whole[HANDLE]) && same(&memories[TABLE], &whole[TABLE]) &&
+           tape_n == whole_tape_n && memcmp(tape, whole_tape, tape_n) == 0;
+}
+
+static void keep(void)
+{
+    memcpy(kept, memories, sizeof kept);
+}
+
+static void go_back(void)
+{
+    memcpy(memories, kept, sizeof kept);
+}
+
+/* ---- commands that make the state that cases start from */
+
+static void check_taken(void)
+{
+    if (memories[HANDLE].bytes[45] != 0 || number_at(&memories[HANDLE], 24) != 0)
+        fault("? refused or unfinished");
+}
+
+static void do_begin(char *line)
+{
+    lay(line);
+    fill_memory(&memories[HANDLE], NELQUBAT_HANDLE_BYTES, 0);
+    fill_memory(&memories[TABLE], NELQUBAT_TABLE_BYTES, 0);
+    call_start();
+    feed_given(ROOM);
+    check_taken();
+}
+
+static enum place next_memory(char **line)
+{
+    enum place place = SPARE;
+    if (!find_memory(next_word(line), &place))
+        fault("? memory");
+    return place;
+}
+
+static void do_set(char *line)
+{
+    enum place place = next_memory(&line);
+    lay(line);
+    memories[place] = memories[GIVEN];
+    if (place <= TABLE)
+        kept[place] = memories[GIVEN];
+}
+
+static void do_fill(char *line)
+{
+    size_t count = next_number(&line), at = next_number(&line);
+    lay(line);
+    if (at + 4 > memories[GIVEN].n) {
+        fault("? place");
+        return;
+    }
+    for (size_t i = 0; i < count; i++) {
+        nelqubat_set(memories[GIVEN].bytes + at, 4, i);
+        feed_given(ROOM);
+    }
+    check_taken();
+}
+
+static void do_packet(char *line)
+{
+    char *name = next_word(&line);
+    if (packet_count == PACKETS || find_packet(name) || !isupper((unsigned char)*name) || strlen(name) >= NAME_ROOM) {
+        fault("? name");
+        return;
+    }
+    lay(line);
+    strcpy(packets[packet_count].name, name);
+    packets[packet_count++].bytes = memories[GIVEN];
+}
+
+/* ---- commands that call */
+
+static void do_start(char *line)
+{
+    lay(line);
+    tell_refusal(call_start(), "started");
+}
+
+static void do_step(char *line)
+{
+    lay(line);
+    tell_step(call_step(memories[GIVEN].bytes, memories[GIVEN].n));
+}
+
+static void do_feed(char *line)
+{
+    lay(line);
+    tape_n = events = 0;
+    feed_given(ROOM);
+    tell_count(events, "events");
+}
+
+static void do_restore(char *line)
+{
+    lay(line);
+    tell_refusal(call_restore(memories[GIVEN].bytes, memories[GIVEN].n), "accepted");
+}
+
+static void do_read(char *line)
+{
+    lay(line);
+    tell_refusal(calls->read(memories[GIVEN].bytes, memories[GIVEN].n, memories[RECORD].bytes, memories[RECORD].n), "read");
+}
+
+static void do_write(char *line)
+{
+    size_t n = next_number(&line);
+    lay(line);
+    fill_memory(&memories[OUT], n, 0xee);
+    tell_output(calls->write(memories[GIVEN].bytes, memories[GIVEN].n, memories[OUT].bytes, n));
+}
+
+static void do_save(char *line)
+{
+    size_t n = next_number(&line);
+    lay(line);
+    fill_memory(&memories[OUT], n, 0xee);
+    tell_output(call_save());
+}
+
+/* ---- commands that look */
+
+static void do_left(char *line)
+{
+    enum place place = next_memory(&line);
+    if (place > TABLE)
+        fault("? memory");
+    else
+        tell_left(memory_names[place], same(&memories[place], &kept[place]));
+}
+
+static void do_same(char *line)
+{
+    enum place place = next_memory(&line);
+    lay(line);
+    tell_same(same(&memories[place], &memories[GIVEN]));
+}
+
+static void do_show(char *line)
+{
+    const struct memory *m = &memories[next_memory(&line)];
+    size_t at = next_number(&line), n = next_number(&line);
+    if (at + n > m->n) {
+        fault("? place");
+        return;
+    }
+    tell("");
+    for (size_t i = 0; i < n; i++)
+        add("%02x", m->bytes[at + i]);
+}
+
+static void do_number(char *line)
+{
+    const struct memory *m = &memories[next_memory(&line)];
+    uint64_t v = number_at(m, next_number(&line));
+    tell("");
+    add("%llu", (unsigned long long)v);
+}
+
+/* A line of the listing without its line feed; false past the last. */
+static bool tell_line(size_t k)
+{
+    char line[NELQUBAT_LINE_BYTES + 1] = {0};
+    uint32_t answer = calls->line(memories[HANDLE].bytes, memories[HANDLE].n, memories[TABLE].bytes, memories[TABLE].n,
+                                  k, (uint8_t *)line, NELQUBAT_LINE_BYTES);
+    if (answer == 0)
+        return false;
+    line[strcspn(line, "\n")] = 0;
+    if (answer % 256 == 0)
+        tell(line);
+    else
+        tell_refusal(answer, "");
+    return answer % 256 == 0;
+}
+
+static void do_line(char *line)
+{
+    tell_line(next_number(&line));
+}
+
+static void do_list(char *line)
+{
+    (void)line;
+    for (size_t k = 0; tell_line(k); k++)
+        continue;
+}
+
+/* ---- commands that do more */
+
+static void do_try(char *line)
+{
+    lay(line);
+    const struct memory *given = &memories[GIVEN];
+    tell_step(call_step(given->bytes, given->n));
+    tell_left("handle", handle_left());
+    tell_left("table", same(&memories[TABLE], &kept[TABLE]));
+    tell_count(memories[HANDLE].bytes[45], "stands");
+    whole[HANDLE] = memories[HANDLE];
+    tell("again ");
+    tell_step(call_step(given->bytes, given->n));
+    go_back();
+    feed_given(1);
+    tell("byte by byte ");
+    tell_same(same_reader(&memories[HANDLE], &whole[HANDLE]) && same(&memories[TABLE], &kept[TABLE]));
+}
+
+static void do_values(char *line)
+{
+    size_t at = next_number(&line), taken = 0, refused = 0;
+    lay(line);
+    if (at >= memories[GIVEN].n) {
+        fault("? place");
+        return;
+    }
+    for (unsigned v = 0; v < 256; v++) {
+        memories[GIVEN].bytes[at] = (uint8_t)v;
+        uint32_t answer = calls->read(memories[GIVEN].bytes, memories[GIVEN].n, memories[RECORD].bytes, memories[RECORD].n);
+        taken += answer == 0;
+        refused += answer == NELQUBAT_REFUSED_FIELD;
+    }
+    tell_count(taken, "taken");
+    tell_count(refused, "refused 12");
+}
+
+static void do_standing(char *line)
+{
+    size_t unfit = 0, again = 0, open = 0;
+    lay(line);
+    for (unsigned n = 0; n < 256; n++) {
+        go_back();
+        memories[HANDLE].bytes[45] = (uint8_t)n;
+        unsigned found = call_step(memories[GIVEN].bytes, memories[GIVEN].n) % 256;
+        unfit += found == 20;
+        again += found == n && n != 0 && n != 20;
+        open += found == 0 && n == 0;
+    }
+    tell_count(unfit, "refused 20");
+    tell_count(again, "given again");
+    tell_count(open, "open");
+}
+
+/* An image that was refused left all; one that was accepted is saved again the same. */
+static bool in_order(const struct memory *fresh, const struct memory *image, unsigned found)
+{
+    if (found != 0)
+        return same(&memories[HANDLE], fresh) && same(&memories[TABLE], &kept[TABLE]);
+    fill_memory(&memories[OUT], image->n, 0xee);
+    call_save();
+    return same(&memories[OUT], image);
+}
+
+static void do_damaged(char *line)
+{
+    static struct memory fresh, image;
+    size_t wanted = next_number(&line), found = 0, good = 0;
+    lay(line);
+    call_start();
+    fresh = memories[HANDLE];
+    for (size_t i = 0; i < memories[GIVEN].n; i++) {
+        image = memories[GIVEN];
+        image.bytes[i]++;
+        if (checked)
+            put_check(image.bytes + i / 512 * 512);
+        memories[TABLE] = kept[TABLE];
+        unsigned number = call_restore(image.bytes, image.n) % 256;
+        found += number == wanted;
+        good += number == wanted && in_order(&fresh, &image, number);
+    }
+    tell_count(found, "found");
+    tell_count(good, "in order");
+}
+
+/* The bytes as one piece, which the other ways are held to. */
+static void run_whole(void)
+{
+    call_start();
+    feed_given(ROOM);
+    memcpy(whole, memories, sizeof whole);
+    memcpy(whole_tape, tape, tape_n);
+    whole_tape_n = tape_n;
+}
+
+static void do_cuts(char *line)
+{
+    const struct memory *given = &memories[GIVEN];
+    size_t agreed = 0;
+    lay(line);
+    run_whole();
+    for (size_t at = 0; at < given->n; at++) {
+        call_start();
+        feed(given->bytes, at, ROOM);
+        feed(given->bytes + at, given->n - at, ROOM);
+        agreed += as_whole();
+    }
+    tell_count(given->n, "tried");
+    tell_count(agreed, "agreed");
+}
+
+static void do_sizes(char *line)
+{
+    const struct memory *given = &memories[GIVEN];
+    size_t agreed = 0;
+    lay(line);
+    run_whole();
+    for (size_t size = 1; size <= given->n; size++) {
+        call_start();
+        feed_given(size);
+        agreed += as_whole();
+    }
+    tell_count(given->n, "tried");
+    tell_count(agreed, "agreed");
+}
+
+/* Saved, restored over other bytes, and logged in again where a session is known. */
+static void resume(void)
+{
+    char login[34];
+    fill_memory(&memories[OUT], NELQUBAT_IMAGE_BYTES, 0xee);
+    size_t n = call_save() / 256;
+    fill_memory(&memories[HANDLE], NELQUBAT_HANDLE_BYTES, 0x11);
+    fill_memory(&memories[TABLE], NELQUBAT_TABLE_BYTES, 0x11);
+    call_restore(memories[OUT].bytes, n);
+    if (memories[HANDLE].bytes[42] != 1)
+        return;
+    snprintf(login, sizeof login, "__A%.10s%20llu", (const char *)memories[HANDLE].bytes + 32,
+             (unsigned long long)number_at(&memories[HANDLE], 0));
+    nelqubat_set((uint8_t *)login, 2, 31);
+    call_step((const uint8_t *)login, 33);
+}
+
+static void do_resumed(char *line)
+{
+    const struct memory *given = &memories[GIVEN];
+    size_t tried = 0, agreed = 0;
+    lay(line);
+    run_whole();
+    for (size_t at = 0; at + 2 <= given->n; at += 2 + (size_t)nelqubat_get(given->bytes + at, 2)) {
+        call_start();
+        feed(given->bytes, at, ROOM);
+        resume();
+        feed(given->bytes + at, given->n - at, ROOM);
+        tried++;
+        agreed += as_whole();
+    }
+    tell_count(tried, "tried");
+    tell_count(agreed, "agreed");
+}
+
+/* ---- a line */
+
+static const struct command {
+    const char *word;
+    void (*run)(char *line);
+} commands[] = {
+    {"packet", do_packet}, {"begin", do_begin}, {"set", do_set}, {"fill", do_fill},
+    {"start", do_start}, {"step", do_step}, {"feed", do_feed}, {"restore", do_restore},
+    {"read", do_read}, {"write", do_write}, {"save", do_save},
+    {"left", do_left}, {"same", do_same}, {"show", do_show}, {"number", do_number},
+    {"line", do_line}, {"list", do_list},
+    {"try", do_try}, {"values", do_values}, {"standing", do_standing}, {"damaged", do_damaged},
+    {"cuts", do_cuts}, {"sizes", do_sizes}, {"resumed", do_resumed}};
+
+static void run_command(char *line)
+{
+    char *word = next_word(&line);
+    for (size_t i = 0; i < sizeof commands / sizeof *commands; i++)
+        if (strcmp(word, commands[i].word) == 0) {
+            commands[i].run(line);
+            return;
+        }
+    fault("? command");
+}
+
+/* Commands with a semicolon between them. */
+static void run_commands(char *line)
+{
+    for (char *next = line; next; line = next) {
+        next = strchr(line, ';');
+        if (next)
+            *next++ = 0;
+        run_command(line);
+    }
+}
+
+static void trim(char *s)
+{
+    size_t n = strlen(s);
+    while (n > 0 && s[n - 1] == ' ')
+        s[--n] = 0;
+}
+
+struct tally {
+    size_t line, cases, right, broken;
+};
+
+static void differs(const struct tally *t, const char *written)
+{
+    printf("vectors: %s: line %zu: came: %s; written: %s\n", calls->name, t->line, came, written);
+}
+
+/* A case: what came is held to what is written behind the sign. */
+static void run_case(char *s, char *sign, struct tally *t)
+{
+    bool must_not = strncmp(sign, "=/>", 3) == 0;
+    char *written = sign + (must_not ? 3 : 2);
+    bool is_then = strncmp(s, "then ", 5) == 0;
+    if (!must_not && strncmp(sign, "=>", 2) != 0)
+        fault("? answer");
+    *sign = 0;
+    trim(s);
+    run_commands(is_then ? s + 5 : s);
+    if (is_then)
+        keep();
+    written += strspn(written, " ");
+    trim(written);
+    t->cases++;
+    if (!broken && *written && (strcmp(came, written) == 0) != must_not)
+        t->right++;
+    else
+        differs(t, written);
+}
+
+static void run_line(char *s, struct tally *t)
+{
+    char *sign = strchr(s, '=');
+    go_back();
+    came_n = 0;
+    came[0] = 0;
+    broken = false;
+    if (sign) {
+        run_case(s, sign, t);
+        return;
+    }
+    trim(s);
+    run_commands(s);
+    if (came_n == 0 && !broken) {
+        keep();
+        return;
+    }
+    t->broken++;
+    differs(t, "nothing");
+}
+
+/* All lines of the text; its last one says how many cases it has. */
+static bool run_text(const char *text, const struct calls *which)
+{
+    static char line[ROOM];
+    struct tally t = {0};
+    size_t said = 0;
+    calls = which;
+    packet_count = 0;
+    memset(memories, 0, sizeof memories);
+    fill_memory(&memories[HANDLE], NELQUBAT_HANDLE_BYTES, 0);
+    fill_memory(&memories[TABLE], NELQUBAT_TABLE_BYTES, 0);
+    fill_memory(&memories[EVENT], NELQUBAT_RECORD_BYTES, 0);
+    fill_memory(&memories[RECORD], NELQUBAT_RECORD_BYTES, 0);
+    keep();
+    while (*text) {
+        size_t n = strcspn(text, "\n");
+        memcpy(line, text, n);
+        line[n] = 0;
+        text += n + (text[n] != 0);
+        t.line++;
+        line[strcspn(line, "#")] = 0;
+        char *s = line + strspn(line, " ");
+        if (sscanf(s, "cases %zu", &said) == 1 || strncmp(s, "section ", 8) == 0 || *s == 0)
+            continue;
+        run_line(s, &t);
+    }
+    printf("vectors: %s: %zu of %zu cases as written\n", which->name, t.right, t.cases);
+    if (said != t.cases)
+        printf("vectors: the text says that it has %zu cases\n", said);
+    return t.right == t.cases && t.broken == 0 && said == t.cases;
+}
+
+int main(int argc, char **argv)
+{
+    static char text[ROOM];
+    FILE *file = argc == 2 ? fopen(argv[1], "rb") : 0;
+    if (!file) {
+        fprintf(stderr, argc == 2 ? "vectors: %s cannot be read\n" : "usage: vectors CASES\n", argc == 2 ? argv[1] : "");
+        return 2;
+    }
+    size_t n = fread(text, 1, sizeof text, file);
+    if (ferror(file) || n == sizeof text) {
+        fprintf(stderr, "vectors: %s cannot be read, or is longer than 65535 bytes\n", argv[1]);
+        return 2;
+    }
+    fclose(file);
+    bool library = run_text(text, &both[0]), plain = run_text(text, &both[1]);
+    return !(library && plain);
+}
