@@ -125,18 +125,18 @@ equal-lent-steps h held t piece a b held₁ t₁ held₂ t₂ x y =
     let e : lentOf a held₁ t₁ ≡ lentOf b held₂ t₂ = equal-answers x y in
     let s = same-steps (steppedWith a held₁) (steppedWith b held₂) t₁ t₂ (ap (λ (l : Lent). l .call) e) in (
       (λ i.
-      record {
-        head = record {
-          line = s .reader .line i;
-          board = s .reader .board i;
-          ended = s .reader .ended i;
-          refusal = s .reader .refusal i;
-          used = s .reader .used i;
-        };
-        taken = s .taken i;
-        answer = s .answer i;
-        texts = s .texts i;
-      }),
+          record {
+            head = record {
+              line = s .reader .line i;
+              board = s .reader .board i;
+              ended = s .reader .ended i;
+              refusal = s .reader .refusal i;
+              used = s .reader .used i;
+            };
+            taken = s .taken i;
+            answer = s .answer i;
+            texts = s .texts i;
+          }),
       ap (λ (l : Lent). l .held) e,
       s .memory,
     )
