@@ -3,7 +3,7 @@
 use mathlib.Core.Path.{_≡_, refl, sym, ap, _∙_}
 use mathlib.Core.List.{List, [], _∷_, _++_}
 use Prim.Native.Nat.{ℕ, zero, suc, _+_, _*_, _/_, _%_, _^_, _≤_, _<_}
-use native.Mathlib.Nat.{zero-add, suc-add, add-assoc, add-mul, mul-assoc, mod-eq-of-lt, one-le-pow, div-div-eq-div-mul, mod-one, pow-zero, pow-succ', zero-mul, mul-add-div-right, mul-add-mod-self-right, div-add-mod', add-comm, div-one}
+use native.Mathlib.Nat.{zero-add, suc-add, add-assoc, add-mul, mul-assoc, mod-eq-of-lt, mod-lt, one-le-pow, div-div-eq-div-mul, mod-one, pow-zero, pow-succ', zero-mul, mul-add-div-right, mul-add-mod-self-right, div-add-mod', add-comm, div-one}
 use native.Mathlib.Omega.{arith}
 use lib.Arith.{digits-lt, digits-div, mod-mul}
 use lib.Dec.{lit<}
@@ -136,6 +136,22 @@ turned-sum a b c d ha hb hc hd =
         let g : v / 65536 % 256 ≡ c = ap (λ (x : ℕ). x / 65536 % 256) k ∙ digit d c (b * 256 + a) 65536 hc (omega arith) in
         let h : v / 16777216 % 256 ≡ d = ap (λ (x : ℕ). x / 16777216 % 256) l ∙ digit 0 d (c * 65536 + b * 256 + a) 16777216 hd (omega arith) in
         rw (e, f, g, h)
+
+-- turned around twice, a number of four bytes is what it was
+pub turned-turned : (v : ℕ) → v < 256 ^ 4 → turned (turned v) ≡ v
+unfolding turned value digits
+turned-turned v h =
+    let a : ℕ = v % 256 in
+    let b : ℕ = v / 256 % 256 in
+    let c : ℕ = v / 65536 % 256 in
+    let d : ℕ = v / 16777216 % 256 in
+    let e : turned v ≡ d + c * 256 + b * 65536 + a * 16777216 = omega arith in
+    let f : d * 16777216 + c * 65536 + b * 256 + a ≡ v = omega (arith, value-digits 256 (lit< tt) 4 v h) in
+    ap turned e ∙ turned-sum d c b a (mod-lt _ (lit< tt)) (mod-lt _ (lit< tt)) (mod-lt _ (lit< tt)) (mod-lt _ (lit< tt)) ∙ f
+
+-- so no two of them are the same when turned
+pub turned-same : (u v : ℕ) → u < 256 ^ 4 → v < 256 ^ 4 → turned u ≡ turned v → u ≡ v
+turned-same u v h k e = sym (turned-turned u h) ∙ ap turned e ∙ turned-turned v k
 
 -- as the code reads them, the lowest first
 pub low-first : (xs : List ℕ) (at : ℕ) {a b c d : ℕ} → at + 4 ≤ length xs → a ≡ be (part xs at 1) → b ≡ be (part xs (at + 1) 1)
