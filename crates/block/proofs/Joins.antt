@@ -6,7 +6,7 @@ use Prim.Native.Nat.{ℕ, _+_, _-_, _≤_}
 use native.Mathlib.Nat.{add-zero}
 use native.Mathlib.Omega.{arith}
 use lib.Dec.{lit<}
-use lib.ListN.{length, take, drop, length-drop, replicate, length-replicate, replicate-append-replicate}
+use lib.ListN.{length, take, drop, length-drop}
 use lib.Seq.{take-append-le, drop-append-le, drop-append-add}
 use Rattle.field.specs.Bytes.{part, be, bytesBe, Bytes}
 use Rattle.field.proofs.Parts.{part-length, part-split, part-whole}
@@ -29,15 +29,6 @@ pub part-both : (a b : List ℕ) (at m n : ℕ) → at + m ≡ length a → part
 part-both a b at m n e =
     part-split (a ++ b) at m n
     ∙ rw (part-first a b at m (omega arith)) (ap (λ (l : List ℕ). part a at m ++ l) (part-second a b (at + m) n (sym e)))
-
--- of one value
-pub part-alike : (m at n b : ℕ) → at + n ≤ m → part (replicate m b) at n ≡ replicate n b
-part-alike m at n b h =
-    let e : at + (n + (m - at - n)) ≡ m = omega arith in
-    rw (← e, ← replicate-append-replicate at (n + (m - at - n)) b, ← replicate-append-replicate n (m - at - n) b)
-    (part-second (replicate at b) _ at n (length-replicate at b)
-    ∙ part-first (replicate n b) (replicate (m - at - n) b) 0 n (omega (arith, length-replicate n b))
-    ∙ part-whole (replicate n b) n (length-replicate n b))
 
 -- the bytes of a number that was read are those that were read
 pub read-bytes : (xs : List ℕ) (at n : ℕ) → Bytes xs → at + n ≤ length xs → bytesBe n (be (part xs at n)) ≡ part xs at n

@@ -22,6 +22,7 @@ use Rattle.message.specs.declared.Refusal.the-variants as messageRefusals
 use Rattle.row.specs.Fields.{takesQuote}
 use Rattle.row.specs.Changes.{unchanged}
 use Rattle.row.specs.declared.Quote.{Quote}
+use Rattle.message.proofs.Typed.{read-typed}
 use Rattle.packet.specs.Session.{Delivered, done, denied}
 use Rattle.packet.proofs.Rules.{both, never}
 use Rattle.table.specs.Memory.{mostRows, tableSize, row, rowFor}
@@ -36,7 +37,6 @@ use Rattle.table.proofs.Kept.{apply-sound, apply-board}
 use Rattle.reader.specs.Refusals.{standing}
 use Rattle.reader.specs.Deliver.{Table, tableOf, Said, said, settledBy, heard, deliver}
 use Rattle.demands.specs.Sound.{SoundTable}
-use Rattle.demands.proofs.Typed.{read-typed}
 
 -- ---- a refusal of the table leaves board and memory, and may stand where they fit
 
@@ -139,7 +139,10 @@ heard-kept t texts (answer.Is m) s f =
 
 pub deliver-kept : (t : Table) (body : List ℕ) → Bytes body → SoundTable t → Delivers (deliver t body)
 unfolding deliver
-deliver-kept t body b s = heard-kept t (readOf body .texts) (readOf body .answer) s (read-typed body b)
+deliver-kept t body b s = heard-kept t (readOf body .texts) (readOf body .answer) s
+    (λ m e.
+    let y = read-typed body b m e in
+    (y .0, y .1))
 
 -- ---- of any table that fits
 

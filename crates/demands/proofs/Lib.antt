@@ -1,5 +1,4 @@
 pub mod Bytes
-pub mod Typed
 pub mod Applied
 pub mod View
 pub mod Kept

@@ -32,6 +32,18 @@ part-all xs = take-length xs
 pub part-whole : (xs : List ℕ) (n : ℕ) → length xs ≡ n → part xs 0 n ≡ xs
 part-whole xs n e = rw (← e) (part-all xs)
 
+-- of one value
+pub part-replicate : (m at n b : ℕ) → at + n ≤ m → part (replicate m b) at n ≡ replicate n b
+unfolding part
+part-replicate m at n b h =
+    let e : at + (n + (m - at - n)) ≡ m = omega arith in
+    let f : replicate m b ≡ replicate at b ++ (replicate n b ++ replicate (m - at - n) b)
+    = ap (λ (x : ℕ). replicate x b) (sym e) ∙ sym (replicate-append-replicate at (n + (m - at - n)) b)
+    ∙ ap (λ (x : List ℕ). replicate at b ++ x) (sym (replicate-append-replicate n (m - at - n) b)) in
+    ap (λ (x : List ℕ). take n (drop at x)) f
+    ∙ ap (take n) (drop-at (replicate at b) (replicate n b ++ replicate (m - at - n) b) at (length-replicate at b))
+    ∙ take-at (replicate n b) (replicate (m - at - n) b) n (length-replicate n b)
+
 pub part-split : (xs : List ℕ) (at m n : ℕ) → part xs at (m + n) ≡ part xs at m ++ part xs (at + m) n
 unfolding part
 part-split xs at m n = rw (take-add, drop-drop)

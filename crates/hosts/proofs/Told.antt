@@ -46,7 +46,8 @@ use Rattle.table.specs.declared.Verdict.the-variants as table
 use Rattle.record.specs.Places.{recordSize}
 use Rattle.record.specs.Record.{recordBytes, Roomy}
 use Rattle.record.specs.declared.Held.{Held}
-use Rattle.record.proofs.Typed.{read-typed, roomy}
+use Rattle.message.proofs.Typed.{accepted-typed}
+use Rattle.record.proofs.Typed.{roomy}
 use Rattle.record.proofs.Rounds.{take-back}
 use Rattle.reader.specs.Refusals.{standing}
 use Rattle.reader.specs.Deliver.{Table, tableOf, Said, said, settledBy, heard, deliver}
@@ -182,7 +183,7 @@ module _ (l : Line) (body : List ℕ) where
 -- a message that is read has room in a record, and no texts but its own
 read-fits : (bs : List ℕ) → Bytes bs → (m : Message) (t : Texts) → readOf bs ≡ accepted m t → EventFits (message (said m t))
 read-fits bs b m t e =
-    let y = read-typed bs b m t e in
+    let y = accepted-typed bs b m t e in
     let w = write-read bs b m t e in
     let again : accepted m (textsWith m t) ≡ accepted m t = sym (read-write m t (y .0) (w .1)) ∙ ap readOf (w .0) ∙ e in
     (roomy m t (y .0) (w .1), ap (λ (r : Reading). r .texts) again)

@@ -8,10 +8,10 @@ use native.Mathlib.Numerals.{add-one}
 use native.Mathlib.Omega.{arith}
 use lib.ListN.{length, replicate, length-append, length-replicate}
 use Rattle.field.specs.Bytes.{part, overlay, bytesBe}
-use Rattle.field.proofs.Parts.{part-length, part-part, overlay-none, overlay-next, overlay-whole}
+use Rattle.field.proofs.Parts.{part-length, part-part, overlay-none, overlay-next, overlay-whole, part-replicate}
 use Rattle.block.specs.Block.{blockSize, headSize, bodySize, checkedSize, checkOf, headBytes}
 use Rattle.block.specs.declared.Head.{Head}
-use Rattle.block.proofs.Joins.{part-first, part-both, part-alike}
+use Rattle.block.proofs.Joins.{part-first, part-both}
 use Rattle.block.proofs.Blocks.{block-length, block-put}
 use Rattle.table.specs.Memory.{mostRows, tableSize, rowAt}
 use Rattle.image.specs.Shape.{pageRows, pagesFor, blocksFor, mostBlocks, headFor, pages, PagesIn, firstPage}
@@ -63,7 +63,7 @@ module _ (rows : ℕ) (mem : List ℕ) (l : length mem ≡ tableSize) (r : rows 
           let f : k * bodySize + used ≡ rowAt rows = omega arith in
           let g : used + (bodySize - used) ≡ bodySize = omega arith in
           rw g at (part-both (part mem 0 (rowAt rows)) (replicate (tableSize - rowAt rows) 0) (k * bodySize) used (bodySize - used) (omega (arith, used-length)))
-          ∙ rw (part-part mem 0 (rowAt rows) (k * bodySize) used (omega arith), zero-add, part-alike (tableSize - rowAt rows) 0 (bodySize - used) 0 (omega arith))
+          ∙ rw (part-part mem 0 (rowAt rows) (k * bodySize) used (omega arith), zero-add, part-replicate (tableSize - rowAt rows) 0 (bodySize - used) 0 (omega arith))
 
       pub last-put : {ys zs : List ℕ} → at + bodySize ≤ length xs → rowAt rows - k * bodySize < bodySize
           → ys ≡ overlay xs at (part mem (k * bodySize) (rowAt rows - k * bodySize))

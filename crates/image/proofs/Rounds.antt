@@ -6,14 +6,16 @@ use mathlib.Core.Bool.{Bool, true, false, _&&_, _||_, cond}
 use mathlib.Core.List.{List, [], _∷_}
 use Prim.Native.Nat.{ℕ, _*_, _^_, _≤_, _<_}
 use native.Mathlib.Omega.{arith}
-use lib.Dec.{eqb, leb, ltb}
+use lib.Dec.{eqb, leb}
 use lib.ListN.{length}
-use borrow.Author.Tests.{eq-eqb, le-leb, eqb-true, leb-true, ltb-true}
+use borrow.Author.Tests.{eq-eqb, le-leb, eqb-true, leb-true}
 use Rattle.field.specs.Bytes.{part, overlay, Bytes}
 use Rattle.field.specs.Limits.{numberInRange, highestNumber}
+use Rattle.field.specs.Text.{every}
 use Rattle.field.proofs.Bools.{both-left, both-right}
 use Rattle.field.proofs.Parts.{part-overlay}
 use Rattle.message.specs.Letters.{listed, eventCodes}
+use Rattle.message.proofs.Typed.{listed-below}
 use Rattle.block.specs.Block.{blockSize}
 use Rattle.table.specs.Memory.{mostRows, tableSize, rowAt}
 use Rattle.table.specs.Board.{fits}
@@ -80,21 +82,8 @@ zero-or-below n e = by (eqb n 0) refl e
     by true f g = omega (arith, eqb-true n 0 f)
     by false f g = below n g
 
-abbrev allBelow256 : List ℕ → Bool
-allBelow256 [] = true
-allBelow256 (x ∷ xs) = ltb x 256 && allBelow256 xs
-
-listed-below : (xs : List ℕ) (c : ℕ) → allBelow256 xs ≡ true → listed xs c ≡ true → c < 256
-unfolding listed
-listed-below [] c e f = let z : _≡_ {A = ℕ} 0 1 = cc in absurd (omega arith)
-listed-below (x ∷ xs) c e f = by (listed-below xs c (both-right (ltb x 256) (allBelow256 xs) e)) (eqb x c) refl f
-  where
-    by : (listed xs c ≡ true → c < 256) → (t : Bool) → eqb x c ≡ t → cond t true (listed xs c) ≡ true → c < 256
-    by rest true q g = omega (arith, eqb-true x c q, ltb-true x 256 (both-left (ltb x 256) (allBelow256 xs) e))
-    by rest false q g = rest g
-
 pub header-fits : (h : Header) (mem : List ℕ) → length (h .session) ≡ 10 → withinLimits h mem ≡ true → headerKeeps h ≡ true → HeaderFits h
-unfolding headerKeeps boardKeeps
+unfolding headerKeeps boardKeeps every
 header-fits h mem s a b =
     let c = both-left (boardKeeps (h .board)) _ b in
     record {

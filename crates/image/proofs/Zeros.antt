@@ -13,9 +13,9 @@ use borrow.Author.Tests.{leb-true}
 use Rattle.field.specs.Bytes.{part}
 use Rattle.field.specs.Text.{every, isZero}
 use Rattle.field.proofs.Bools.{both-left, both-right}
-use Rattle.field.proofs.Parts.{part-part, part-whole}
+use Rattle.field.proofs.Parts.{part-part, part-whole, part-replicate}
 use Rattle.field.proofs.Runs.{every-replicate}
-use Rattle.block.proofs.Joins.{part-first, part-second, part-both, part-alike}
+use Rattle.block.proofs.Joins.{part-first, part-second, part-both}
 use Rattle.table.specs.Memory.{tableSize, rowAt, mostRows}
 use Rattle.image.specs.Save.{cleared}
 use Rattle.image.proofs.Puts.{used-length}
@@ -52,7 +52,7 @@ module _ (rows : ℕ) (mem : List ℕ) (l : length mem ≡ tableSize) (r : rows 
   unfolding cleared
   cleared-past n e =
       part-second (part mem 0 (rowAt rows)) _ (rowAt rows) n (used-length rows mem l r)
-      ∙ part-alike (tableSize - rowAt rows) 0 n 0 (omega arith)
+      ∙ part-replicate (tableSize - rowAt rows) 0 n 0 (omega arith)
 
   -- what reaches past the rows is all of it, but for zeros
   pub cleared-whole : (n : ℕ) → rowAt rows ≤ n → n ≤ tableSize → part (cleared rows mem) 0 n ++ replicate (tableSize - n) 0 ≡ cleared rows mem
@@ -64,7 +64,7 @@ module _ (rows : ℕ) (mem : List ℕ) (l : length mem ≡ tableSize) (r : rows 
       rw (
         rw a at (part-both (part mem 0 (rowAt rows)) (replicate (tableSize - rowAt rows) 0) 0 (rowAt rows) (n - rowAt rows) (omega arith)),
         part-whole (part mem 0 (rowAt rows)) (rowAt rows) u,
-        part-alike (tableSize - rowAt rows) 0 (n - rowAt rows) 0 (omega arith),
+        part-replicate (tableSize - rowAt rows) 0 (n - rowAt rows) 0 (omega arith),
         append-assoc,
         replicate-append-replicate (n - rowAt rows) (tableSize - n) zero,
         b,

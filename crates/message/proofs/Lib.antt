@@ -2,6 +2,7 @@ pub mod Layouts
 pub mod Table
 pub mod Rounds
 pub mod Verdicts
+pub mod Typed
 pub mod Ways
 pub mod Puts
 mod Examples

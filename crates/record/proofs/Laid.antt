@@ -14,6 +14,7 @@ use Rattle.field.proofs.Bools.{both-left, both-right}
 use Rattle.field.proofs.Numbers.{digits-length, value-digits, digits-value, part-bytes}
 use Rattle.field.proofs.Parts.{part-length, part-at, part-before, part-after, part-overlay, overlay-length}
 use Rattle.message.specs.Layout.{Value, num, raw, Rule, binary, decimal, text, bytes, Row, valueIn, bytesIn, values, FitsIn, Fit}
+use Rattle.message.proofs.Typed.{inside}
 use Rattle.record.specs.Record.{laid}
 
 -- each field's bytes are as many as its place has
@@ -21,11 +22,6 @@ abbrev pub Wide : List Row → List Value → Type 0
 Wide [] vs = Unit
 Wide (r ∷ rs) [] = Unit
 Wide (r ∷ rs) (v ∷ vs) = (length (bytesIn (r .rule) (r .width) v) ≡ r .width) × Wide rs vs
-
--- the places lie in the first n bytes
-unfoldable pub inside : ℕ → List Row → Bool
-inside n [] = true
-inside n (r ∷ rs) = leb (r .at + r .width) n && inside n rs
 
 -- the n bytes from byte i on are outside of all the places
 unfoldable pub outside : ℕ → ℕ → List Row → Bool

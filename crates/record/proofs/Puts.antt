@@ -24,9 +24,10 @@ use Rattle.message.specs.declared.EndOfReplay.{EndOfReplay}
 use Rattle.message.specs.declared.Message.{Message}
 use Rattle.message.specs.declared.Texts.{Texts}
 use Rattle.message.proofs.Puts.{three-marks, long-numbers-put}
+use Rattle.message.proofs.Typed.{inside}
 use Rattle.record.specs.Places.{recordSize, number, letterPlace, stampPlaces, headPlaces, sideAt, shortPlaces, longPlaces, termsPlaces, marketPlaces, systemEventPlaces, directoryPlaces, shortQuotePlaces, longQuotePlaces, shortSidePlaces, longSidePlaces, endOfReplayPlaces}
 use Rattle.record.specs.Record.{laid, laidOver, recordBytes, termsFields, marketFields}
-use Rattle.record.proofs.Laid.{inside, laid-length}
+use Rattle.record.proofs.Laid.{laid-length}
 
 pub stamp-laid : (xs : List ℕ) (l : ℕ) (s : Stamp) {us vs zs : List ℕ} → us ≡ overlay xs 0 (bytesBe 1 l) → vs ≡ overlay us 2 (bytesBe 2 (s .tracking))
     → zs ≡ overlay vs 8 (bytesBe 8 (s .time)) → zs ≡ laid (letterPlace ∷ stampPlaces) (num l ∷ stampFields s) xs

@@ -30,12 +30,13 @@ use Rattle.message.specs.declared.WriteRefusal.{WriteRefusal}
 use Rattle.message.specs.declared.WriteRefusal.the-variants.{BrokenRecord, ShortOutput}
 use Rattle.message.proofs.Table.{is-listed-letter}
 use Rattle.message.proofs.Rounds.{bytes-length, read-write, write-read}
+use Rattle.message.proofs.Typed.{inside, accepted-typed}
 use Rattle.record.specs.Places.{recordSize, letterPlace, placesFor, shortSidePlaces, longSidePlaces, recordLetters, recordLetter, recordLetterFor}
 use Rattle.record.specs.Record.{laid, laidOver, recordBytes, held, saidBy, saidOf, confirmed, recordOf, Answered, answered, readTo, readAnswer, writtenAs, writeFrom, writeAnswer, Roomy}
 use Rattle.record.specs.declared.Taken.{Taken}
 use Rattle.record.specs.declared.Taken.the-variants.{Is, NoRecord}
-use Rattle.record.proofs.Laid.{inside, apart, outside, Plain, laid-length, part-kept, fit-wide, values-laid, laid-own}
-use Rattle.record.proofs.Typed.{Said, is-said, Record, is-record, record-roomy, read-typed, roomy, typed}
+use Rattle.record.proofs.Laid.{apart, outside, Plain, laid-length, part-kept, fit-wide, values-laid, laid-own}
+use Rattle.record.proofs.Typed.{Said, is-said, Record, is-record, record-roomy, roomy, typed}
 
 -- ---- the places of a message
 
@@ -258,7 +259,7 @@ wire-back bs before memory out s e room =
     let r = is-read bs before memory e in
     let m = r .said in
     let t = r .texts in
-    let y = read-typed bs s m t (r .is) in
+    let y = accepted-typed bs s m t (r .is) in
     let w = write-read bs s m t (r .is) in
     let f = roomy m t (y .0) (w .1) in
     let wrote : writeOf m (textsWith m t) out ≡ outcome (Whole (length bs)) (overlay out 0 bs)

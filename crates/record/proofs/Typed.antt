@@ -1,4 +1,4 @@
--- A message that is read, and one that a record holds, has room for each of its values.
+-- What a record holds has room for each of its values.
 -- Assumes nothing.
 use mathlib.Core.Path.{_≡_, refl, sym, ap, _∙_}
 use mathlib.Core.Bool.{Bool, true, false, cond}
@@ -7,102 +7,25 @@ use Prim.Native.Nat.{ℕ, _+_, _^_, _≤_, _<_}
 use native.Mathlib.Omega.{arith}
 use borrow.Author.Tests.{eqb-true, eqb-false, leb-true}
 use lib.Dec.{eqb, leb}
-use lib.ListN.{length, getD, length-append, length-replicate}
-use Rattle.field.specs.Bytes.{part, same, Bytes}
+use lib.ListN.{length, getD}
+use Rattle.field.specs.Bytes.{same, Bytes}
 use Rattle.field.specs.Limits.{numberInRange, highestNumber}
-use Rattle.field.specs.Decimal.{numberBeforeSpaces, charsThenSpaces, chars, digitCount}
-use Rattle.field.specs.declared.decimal.Number.{Number}
-use Rattle.field.specs.declared.decimal.Number.the-variants as number
 use Rattle.field.proofs.Bools.{both-left, both-right}
-use Rattle.field.proofs.Numbers.{part-below}
-use Rattle.field.proofs.Parts.{part-length}
-use Rattle.field.proofs.Decimals.{of-before, chars-length}
 use Rattle.field.proofs.Same.{test-same}
-use Rattle.message.specs.Layout.{Rule, binary, decimal, text, bytes, Row, orZero, valueIn, holds, values, keepsAll, FitsIn, Fit}
-use Rattle.message.specs.Letters.{Letter, letters, letterIn, letterFor, fieldsOf}
-use Rattle.message.specs.Message.{accepted, refused, readOf, keeps, Typed}
+use Rattle.message.specs.Layout.{holds, values, keepsAll, Fit}
+use Rattle.message.specs.Letters.{Letter, letterIn, letterFor, fieldsOf}
+use Rattle.message.specs.Message.{keeps, Typed}
 use Rattle.message.specs.declared.Message.{Message}
 use Rattle.message.specs.declared.Message.the-variants as message
 use Rattle.message.specs.declared.Texts.{Texts}
-use Rattle.message.specs.declared.Refusal.{Refusal}
-use Rattle.message.specs.declared.Answer.the-variants as reading
-use Rattle.message.specs.declared.Reading.{Reading}
 use Rattle.message.proofs.Puts.{twenty}
-use Rattle.message.proofs.Table.{found, code-found, found-makes}
-use Rattle.message.proofs.Verdicts.{Verdict, empty, unknown, long, field, whole, read-verdict}
+use Rattle.message.proofs.Table.{found, code-found}
+use Rattle.message.proofs.Typed.{inside, values-fit}
 use Rattle.record.specs.Places.{recordSize, placesFor, recordLetters}
 use Rattle.record.specs.Record.{recordBytes, held, noRecord, saidBy, saidOf, confirmed, recordOf, Roomy}
 use Rattle.record.specs.declared.Taken.{Taken}
 use Rattle.record.specs.declared.Taken.the-variants.{Is, NoRecord}
 use Rattle.record.specs.declared.Held.{Held}
-use Rattle.record.proofs.Laid.{inside}
-
--- ---- the values of bytes
-
-never : {A : Type 0} → false ≡ true → A
-never e = let z : _≡_ {A = ℕ} 0 1 = cc in absurd (omega arith)
-
--- characters that write a number have room for its digits
-decimal-fits : (f : List ℕ) (w : ℕ) → length f ≡ w → (x : Number) → numberBeforeSpaces f ≡ x → numberInRange (orZero x) ≡ true → digitCount (orZero x) ≤ w
-unfolding charsThenSpaces chars
-decimal-fits f w l (number.Is n) e h = omega (arith, simp (length-append, chars-length, length-replicate) at (ap length (of-before f n e)))
-decimal-fits f w l number.Bad e h = never h
-
-value-fits : (r : Row) (bs : List ℕ) → Bytes bs → r .at + r .width ≤ length bs → holds (r .rule) (valueIn (r .rule) (part bs (r .at) (r .width))) ≡ true
-    → FitsIn (r .rule) (r .width) (valueIn (r .rule) (part bs (r .at) (r .width)))
-value-fits r bs s l h = by (r .rule) h
-  where
-    f : List ℕ
-    f = part bs (r .at) (r .width)
-
-    by : (q : Rule) → holds q (valueIn q f) ≡ true → FitsIn q (r .width) (valueIn q f)
-    by (binary p) k = part-below bs (r .at) (r .width) s l
-    by decimal k = decimal-fits f (r .width) (part-length bs (r .at) (r .width) l) (numberBeforeSpaces f) refl k
-    by text k = part-length bs (r .at) (r .width) l
-    by bytes k = part-length bs (r .at) (r .width) l
-
--- values that keep their rules fit the rows that they were read from
-values-fit : (rs : List Row) (bs : List ℕ) (n : ℕ) → Bytes bs → n ≤ length bs → inside n rs ≡ true → keepsAll rs (values rs bs) ≡ true → Fit rs (values rs bs)
-unfolding values keepsAll inside
-values-fit [] bs n s l i h = tt
-values-fit (r ∷ rs) bs n s l i h =
-    let v = valueIn (r .rule) (part bs (r .at) (r .width)) in
-    let here : r .at + r .width ≤ n = leb-true (r .at + r .width) n (both-left (leb (r .at + r .width) n) (inside n rs) i) in (
-      value-fits r bs s (omega arith) (both-left (holds (r .rule) v) (keepsAll rs (values rs bs)) h),
-      values-fit rs bs n s l (both-right (leb (r .at + r .width) n) (inside n rs) i) (both-right (holds (r .rule) v) (keepsAll rs (values rs bs)) h),
-    )
-
--- ---- a message that is read
-
--- the rows of a letter lie in its bytes
-letter-inside : (c : ℕ) → inside (letterIn letters c .size) (letterIn letters c .rows) ≡ true
-unfolding letters inside
-letter-inside c = found (λ (l : Letter). inside (l .size) (l .rows) ≡ true) c letters refl (search tt depth 60)
-
-refused-clash : {A : Type 0} {r : Refusal} {m : Message} {t : Texts} → refused r ≡ accepted m t → A
-refused-clash {r = r} {m = m} e =
-    let p : reading.Refused r ≡ reading.Is m = ap (λ (x : Reading). x .answer) e in
-    let z : _≡_ {A = ℕ} 0 1 = cc in
-    absurd (omega arith)
-
-verdict-typed : (bs : List ℕ) (x : Reading) → Bytes bs → Verdict bs x → (m : Message) (t : Texts) → x ≡ accepted m t → Typed m t × (length bs ≡ letterFor m .size)
-verdict-typed bs x s empty m t e = refused-clash e
-verdict-typed bs x s (unknown c rest i) m t e = refused-clash e
-verdict-typed bs x s (long c rest i j) m t e = refused-clash e
-verdict-typed bs x s (field c rest i j) m t e = refused-clash e
-verdict-typed bs x s (whole c rest i k) m t e =
-    let l = letterIn letters c in
-    let vs = values (l .rows) (c ∷ rest) in
-    let w = found-makes c (c ∷ rest) (i .isListed) in
-    let o : reading.Is (l .makes vs) ≡ reading.Is m = ap (λ (y : Reading). y .answer) e in
-    let p : l .makes vs ≡ m = cc in
-    let q : l .texts vs ≡ t = ap (λ (y : Reading). y .texts) e in
-    let h : l .size ≤ length (c ∷ rest) = omega (arith, i .isLong) in
-    rw (← p, ← q, w .own, w .fields) (values-fit (l .rows) (c ∷ rest) (l .size) s h (letter-inside c) k, i .isLong)
-
--- THEOREM: a message that is read has room for its values, and as many bytes as its letter
-pub read-typed : (bs : List ℕ) → Bytes bs → (m : Message) (t : Texts) → readOf bs ≡ accepted m t → Typed m t × (length bs ≡ letterFor m .size)
-read-typed bs s = verdict-typed bs (readOf bs) s (read-verdict bs)
 
 -- ---- room in a record and in the letter's own fields: the widths are the same, but for the number of M
 

@@ -26,6 +26,7 @@ use Rattle.message.specs.declared.Directory.{Directory}
 use Rattle.message.specs.declared.TradingAction.{TradingAction}
 use Rattle.message.specs.declared.Texts.{Texts}
 use Rattle.message.proofs.Layouts.{values-back, values-in-part, rowsIn, fields-length}
+use Rattle.message.proofs.Typed.{listed-below}
 use Rattle.row.specs.Fields.{rowSize, other, stateOf, conditionOf, sidesOf, sideAt, numbersOf, priceOf, timeOf, hasSeen, seenWith}
 use Rattle.row.specs.Changes.{Change, change, changed, places, outside, entryChange, stateChange, conditionChange, seenChange, numbersChange, stampChange, purge, purgeFor, sidesChanges, directoryChanges, newRow, actionChanges, quoteChanges}
 use Rattle.row.specs.Rules.{entryKeeps, marksKeep, sideKeeps, bareKeeps, stampKeeps, spareKeeps, rowKeeps}
@@ -152,16 +153,6 @@ module _ where
   seen Ask (suc (suc zero)) h = record { few = omega arith; some = refl; own = refl; rest = refl }
   seen Ask (suc (suc (suc zero))) h = record { few = omega arith; some = refl; own = refl; rest = refl }
   seen Ask (suc (suc (suc (suc s)))) h = absurd (omega arith)
-
--- a listed code is a byte
-listed-below : (xs : List ℕ) (c : ℕ) → every (within 0 255) xs ≡ true → listed xs c ≡ true → c < 256
-unfolding listed every
-listed-below [] c b e = let y : false ≡ true = e in let z : _≡_ {A = ℕ} 0 1 = cc in omega arith
-listed-below (x ∷ xs) c b e = by (eqb x c) refl e (listed-below xs c (both-right (within 0 255 x) (every (within 0 255) xs) b))
-  where
-    by : (t : Bool) → eqb x c ≡ t → cond t true (listed xs c) ≡ true → (listed xs c ≡ true → c < 256) → c < 256
-    by true t f rec = omega (arith, eqb-true x c t, leb-true x 255 (both-right (leb 0 x) (leb x 255) (both-left (within 0 255 x) (every (within 0 255) xs) b)))
-    by false t f rec = rec f
 
 -- ---- a quote
 
