@@ -38,7 +38,7 @@ use Rattle.demands.proofs.Kept.{Kept, ours-kept, kept-ours, ours-within
 -- ---- steps
 
 -- the bytes that come next after a step
-next-bytes : (piece more : List ℕ) (n : ℕ) → Bytes (piece ++ more) → Bytes (drop n piece ++ more)
+pub next-bytes : (piece more : List ℕ) (n : ℕ) → Bytes (piece ++ more) → Bytes (drop n piece ++ more)
 next-bytes piece more n b = bytes-append (drop n piece) more (bytes-drop n piece (bytes-left piece more b)) (bytes-right piece more b)
 
 -- the steps of the code are calls of the definitions

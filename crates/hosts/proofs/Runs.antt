@@ -29,10 +29,11 @@ use Rattle.reader.specs.declared.Started.{Started}
 use Rattle.reader.specs.declared.StartAnswer.the-variants.{Ready}
 use Rattle.abi.specs.Host.{readerIn, handleBytes, noHeld, headIn, memoryIn, Left, left, unheld, startedAs, startHost, Gone, goneTo, movedBy, toldEvent, told, Stepped, hostStepped, steppedAs, stepHost, HostSteps, HostStarts}
 use Rattle.demands.specs.Sound.{begin}
-use Rattle.demands.proofs.Bytes.{bytes-append, bytes-left, bytes-right, bytes-drop}
+use Rattle.demands.proofs.Bytes.{bytes-left}
 use Rattle.demands.proofs.Kept.{Kept, ours-kept, ours-within, step-kept}
 use Rattle.demands.proofs.View.{endedIn, refusalIn, ended-of, refusal-of}
 use Rattle.demands.proofs.Callers as callers
+use Rattle.demands.proofs.Callers.{next-bytes}
 use Rattle.hosts.specs.Events.{takenIn, kindIn, eventsIn, eventsFor}
 use Rattle.hosts.specs.Runs.{HostRun, stop, step, HostDone}
 use Rattle.hosts.proofs.Told.{stands-low, AnswerFits, answer-back, step-fits}
@@ -226,9 +227,6 @@ module _ (handle table piece event : List ℕ) (o : HostOurs handle table) (b : 
 
 -- ---- a run
 
-next-bytes : (piece more : List ℕ) (n : ℕ) → Bytes (piece ++ more) → Bytes (drop n piece ++ more)
-next-bytes piece more n b = bytes-append (drop n piece) more (bytes-drop n piece (bytes-left piece more b)) (bytes-right piece more b)
-
 -- the steps of a host are calls of the definitions
 pub run-called : {handle table bs handle′ table′ rest : List ℕ} {es : List (Event Said)} → HostRun handle table bs es handle′ table′ rest
     → HostOurs handle table → Bytes bs → Called (soupBinTCP deliver) (stateOf (readerIn handle) table) bs es (stateOf (readerIn handle′) table′) rest
@@ -245,11 +243,6 @@ run-ours stop o b = o
 run-ours (step {handle = handle} {table = table} piece more event a handle′ table′ event′ s c) o b =
     run-ours c (one-ours handle table piece event o (bytes-left piece more b) a handle′ table′ event′ s) (next-bytes piece more (takenIn a) b)
 
-unfinished-in : (st : State (Session Table)) → frame (heldIn st) ≡ short → Unfinished st
-unfinished-in (live s held) h = h
-unfinished-in (ended s held) h = tt
-unfinished-in (refused s held e n) h = tt
-
 pub done-left : (handle table rest : List ℕ) → HostDone handle rest → NothingLeft (stateOf (readerIn handle) table) rest
 done-left handle table rest d = by d
   where
@@ -264,7 +257,7 @@ done-left handle table rest d = by d
     by (inr (inr r)) = both None (eqb (headOf handle .refusal) 0) (λ f. absurd (r (eqb-true (headOf handle .refusal) 0 f))) (λ _. tt)
 
 pub own-unfinished : (handle table : List ℕ) → HostOurs handle table → Unfinished (stateOf (readerIn handle) table)
-own-unfinished handle table o = unfinished-in (stateOf (readerIn handle) table) (ours-kept (readerIn handle) table (o .ours) .short)
+own-unfinished handle table o = callers.unfinished-in (readerIn handle) table (o .ours)
 
 pub run-read : {handle table bs handle′ table′ rest : List ℕ} {es : List (Event Said)} → HostRun handle table bs es handle′ table′ rest
     → HostOurs handle table → Bytes bs → HostDone handle′ rest
