@@ -771,7 +771,7 @@ static void do_sizes(char *line)
 /* Saved, restored over other bytes, and logged in again where a session is known. */
 static void resume(void)
 {
-    char login[34];
+    char login[34] = "__A";
     fill_memory(&memories[OUT], NELQUBAT_IMAGE_BYTES, 0xee);
     size_t n = call_save() / 256;
     fill_memory(&memories[HANDLE], NELQUBAT_HANDLE_BYTES, 0x11);
@@ -779,9 +779,9 @@ static void resume(void)
     call_restore(memories[OUT].bytes, n);
     if (memories[HANDLE].bytes[42] != 1)
         return;
-    snprintf(login, sizeof login, "__A%.10s%20llu", (const char *)memories[HANDLE].bytes + 32,
-             (unsigned long long)number_at(&memories[HANDLE], 0));
     nelqubat_set((uint8_t *)login, 2, 31);
+    memcpy(login + 3, memories[HANDLE].bytes + 32, NELQUBAT_SESSION_BYTES);
+    snprintf(login + 13, sizeof login - 13, "%20llu", (unsigned long long)number_at(&memories[HANDLE], 0));
     call_step((const uint8_t *)login, 33);
 }
 
@@ -933,13 +933,13 @@ static bool run_text(const char *text, const struct calls *which)
 int main(int argc, char **argv)
 {
     static char text[ROOM];
-    FILE *file = argc == 2 ? fopen(argv[1], "rb") : 0;
-    if (!file) {
-        fprintf(stderr, argc == 2 ? "vectors: %s cannot be read\n" : "usage: vectors CASES\n", argc == 2 ? argv[1] : "");
+    if (argc != 2) {
+        fprintf(stderr, "usage: vectors CASES\n");
         return 2;
     }
-    size_t n = fread(text, 1, sizeof text, file);
-    if (ferror(file) || n == sizeof text) {
+    FILE *file = fopen(argv[1], "rb");
+    size_t n = file ? fread(text, 1, sizeof text, file) : 0;
+    if (!file || ferror(file) || n == sizeof text) {
         fprintf(stderr, "vectors: %s cannot be read, or is longer than 65535 bytes\n", argv[1]);
         return 2;
     }
