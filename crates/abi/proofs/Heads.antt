@@ -17,9 +17,9 @@ use Rattle.handle.specs.Handle.{headSize, handleSize, headBytes}
 use Rattle.handle.specs.declared.Head.{Head}
 use Rattle.handle.proofs.Rounds.{head-before}
 use Rattle.reader.specs.Deliver.{Table}
-use Rattle.reader.specs.View.{sessionOf, heldOf, stateOf, headPart}
+use Rattle.reader.specs.View.{sessionOf, heldOf, stateOf, memoryIn, headPart}
 use Rattle.reader.specs.declared.Reader.{Reader}
-use Rattle.abi.specs.Host.{headIn, memoryIn, handleBytes}
+use Rattle.abi.specs.Host.{headIn, handleBytes}
 
 -- ---- a reader's state has its head and its table memory
 

@@ -2,7 +2,7 @@
 -- Assumes nothing.
 use mathlib.Core.Path.{_≡_, refl, sym, ap, _∙_}
 use mathlib.Core.Bool.{Bool, true, false, not, cond, _&&_}
-use mathlib.Core.List.{List, _++_}
+use mathlib.Core.List.{List, [], _++_}
 use Prim.Native.Nat.{ℕ, _+_, _*_, _≤_, _<_}
 use native.Mathlib.Omega.{arith}
 use borrow.Author.Tests.{eq-eqb, ne-eqb, le-leb, lt-leb, leb-true}
@@ -28,9 +28,10 @@ use Rattle.record.specs.Record.{Answered, answered, recordBytes}
 use Rattle.reader.specs.Deliver.{Table, Said, deliver}
 use Rattle.reader.specs.Refusals.{refusalNumber}
 use Rattle.reader.specs.View.{Seen, sessionOf, readerWith, headPart, heldOf, stateAt, stateOf, seenOf, seen, eventOf, answerOf}
-use Rattle.reader.specs.Limits.{withinLimits}
-use Rattle.reader.specs.Calls.{Begun, begunOf, startAll, Starting, startNumber, Lent, lentOf, LentStepping, stepAll, unfit}
-use Rattle.reader.specs.Saving.{Came, Restores, restoreAll, headerOf, Saves, saveAll}
+use Rattle.reader.specs.Limits.{withinLimits, lentWithin}
+use Rattle.reader.specs.Calls.{Begun, begunOf, startAll, Starting, startNumber, Lent, lentOf, lentBy, lentAll, LentStepping, stepAll, unfit}
+use Rattle.reader.specs.Saving.{Came, restoreNumber, Restores, restoreAll, headerOf, Written, writtenOf, writtenBy, Saves, saveAll}
+use Rattle.reader.proofs.Lent.{lent-is, limits-of}
 use Rattle.reader.specs.declared.Reader.{Reader}
 use Rattle.reader.specs.declared.Moved.{Moved}
 use Rattle.reader.specs.declared.Started.{Started}
@@ -43,23 +44,24 @@ use Rattle.reader.specs.declared.StepAnswer.{StepAnswer}
 use Rattle.reader.specs.declared.StepAnswer.the-variants as answer
 use Rattle.reader.specs.declared.StartAnswer.{StartAnswer}
 use Rattle.reader.specs.declared.StartAnswer.the-variants as started
-use Rattle.image.specs.Header as images
-use Rattle.image.specs.Header.{headerKeeps}
-use Rattle.image.specs.Save.{Saving, saving, unsaved, sizeFor, imageOf, saveOf}
-use Rattle.image.specs.Shape.{blocksFor, pagesFor}
+use Rattle.block.specs.Block.{blockSize}
+use Rattle.image.specs.Header as headers
+use Rattle.image.specs.Save as images
+use Rattle.image.specs.Save.{saving, sizeFor, saveOf}
+use Rattle.image.specs.Shape.{blocksFor, pagesFor, mostBlocks}
 use Rattle.image.specs.declared.Header.{Header}
-use Rattle.image.specs.declared.Refusal.the-variants.{Misfit, BadContents, ShortOutput}
+use Rattle.image.specs.declared.Refusal as image
+use Rattle.image.proofs.Rounds.{stored}
 use Rattle.image.specs.declared.Saved.{Saved}
 use Rattle.image.specs.declared.Saved.the-variants as saved
 use Rattle.table.specs.Memory.{mostRows, tableSize}
 use Rattle.table.specs.Board.{fits}
-use Rattle.table.specs.Rules.{rowsKeep}
 use Rattle.message.specs.declared.Message.{Message}
 use Rattle.listing.specs.Lines.{lineOf, lineWith}
 use Rattle.listing.specs.declared.Text.{Text}
 use Rattle.listing.specs.declared.Ending.{Ending}
 use Rattle.listing.specs.declared.Ending.the-variants as ending
-use Rattle.abi.specs.Host.{readerIn, handleBytes, noHeld, headIn, left, unheld, startedAs, startHost, StartsOn, verdictNumber, restoredAs, restoreHost, RestoresOn, loginBytes, toldEvent, told, Gone, goneTo, movedBy, movedOf, Follows, hostStepped, steppedAs, stepHost, savedNumber, savedAs, SavedFits, saveHost, endingOf, lineTo, textOf, lineHost}
+use Rattle.abi.specs.Host.{readerIn, handleBytes, noHeld, headIn, left, unheld, startedAs, startHost, StartsOn, restoredAs, restoreHost, RestoresOn, loginBytes, toldEvent, told, Gone, goneTo, movedBy, movedOf, Follows, hostStepped, steppedAs, stepHost, savedNumber, savedAs, SavedFits, saveHost, endingOf, lineTo, textOf, lineHost}
 use Rattle.abi.proofs.Heads.{head-in, memory-in, put-over}
 use Rattle.abi.proofs.Rounds.{reader-back}
 
@@ -113,15 +115,22 @@ module _ (handle table : List ℕ) where
   restore-misfit image d = rw (ne-eqb (length handle) handleSize d)
 
   pub restore-goes : (image handle′ table′ : List ℕ) (r : Restored) (h : Head) {n : ℕ} → length handle ≡ handleSize → Restores image table r table′ → h ≡ headPart (r .reader)
-      → handle′ ≡ handleBytes h noHeld → n ≡ verdictNumber (r .verdict) → left n handle′ table′ ≡ restoreHost handle table image
+      → handle′ ≡ handleBytes h noHeld → n ≡ restoreNumber (r .verdict) → left n handle′ table′ ≡ restoreHost handle table image
   unfolding restoreHost
   restore-goes image handle′ table′ r h l e f g i =
-      rw (eq-eqb (length handle) handleSize l, i) (unheld-as (r .reader) table′ handle′ h (verdictNumber (r .verdict)) f g ∙ ap restoredAs e)
+      rw (eq-eqb (length handle) handleSize l, i) (unheld-as (r .reader) table′ handle′ h (restoreNumber (r .verdict)) f g ∙ ap restoredAs e)
 
 -- ---- a step of a handle where it lies
 
 abbrev goneWith : Lent → Gone
 goneWith l = goneTo (l .call) (l .held)
+
+-- the places behind the head are as many as a handle has
+as-reader : (handle table piece : List ℕ) (h : Head) → length handle ≡ handleSize → let held = part handle headSize heldSize in
+    lentBy held (h .used) piece (lentAll h held table piece) ≡ lentBy held (h .used) piece (stepAll (readerWith h held) table piece)
+as-reader handle table piece h l =
+    let held = part handle headSize heldSize in
+    ap (lentBy held (h .used) piece) (lent-is h held table piece (part-length handle headSize heldSize (omega (arith, l))))
 
 pub moves : (handle table piece : List ℕ) (h : Head) (m : Moved) (held first handle′ table′ : List ℕ) → length handle ≡ handleSize → length held ≡ heldSize
     → length (m .head .line .session) ≡ 10 → h ≡ headOf handle → LentStepping h (part handle headSize heldSize) table piece m held table′
@@ -133,7 +142,7 @@ moves handle table piece h m held first handle′ table′ l k ten e f g i =
     ap (λ (x : List ℕ). movedOf m x table′)
     (put-over (m .head) handle held first handle′ ten l k g i ∙ ap (λ (x : Head). handleBytes x held) (sym (head-in r table′)))
     ∙ ap (movedOf m (handleBytes (headIn (stateOf r table′) (r .used)) held)) (sym (memory-in r table′))
-    ∙ ap goneWith (rw e at f)
+    ∙ ap goneWith (rw e at (f ∙ as-reader handle table piece h l))
 
 pub moves-on : (handle table piece : List ℕ) (h : Head) (m : Moved) (held first handle′ table′ : List ℕ) → length handle ≡ handleSize → length held ≡ heldSize
     → HeadFits (m .head) → h ≡ headOf handle → LentStepping h (part handle headSize heldSize) table piece m held table′
@@ -142,7 +151,7 @@ pub moves-on : (handle table piece : List ℕ) (h : Head) (m : Moved) (held firs
 moves-on handle table piece h m held first handle′ table′ l k fits e f g i =
     ap (λ (x : List ℕ). stateOf (readerIn x) table′) (put-over (m .head) handle held first handle′ (fits .session) l k g i)
     ∙ ap (λ (r : Reader). stateOf r table′) (reader-back (m .head) held fits k)
-    ∙ ap (λ (x : Lent). x .call .step .state) f
+    ∙ ap (λ (x : Lent). x .call .step .state) (f ∙ as-reader handle table piece h l)
     ∙ ap (λ (x : Head). stepAll (readerWith x (part handle headSize heldSize)) table piece .step .state) e
 
 -- a step takes no more than a packet
@@ -186,15 +195,20 @@ module _ (handle table piece event : List ℕ) where
 
 -- ---- saving
 
+number-any : (s : Saved) (x y : List ℕ) → answered (savedNumber (writtenOf s x)) y ≡ savedAs (writtenOf s y)
+number-any (saved.Whole n) x y = refl
+number-any (saved.Unsaved r) x y = refl
+
 module _ (handle table out : List ℕ) {b : Bool} (e : b ≡ isHandle handle) where
   pub save-no-handle : not b ≡ true → answered 20 out ≡ saveHost handle table out
   unfolding saveHost
   save-no-handle f = rw (not-call b (isHandle handle) e f)
 
-  pub save-goes : {n : ℕ} (r : Reader) (s : Saved) (after : List ℕ) → not b ≡ false → r ≡ readerIn handle → Saves r table out s after → n ≡ savedNumber s
+  pub save-goes : {n : ℕ} (r : Reader) (s : Saved) (after : List ℕ) → not b ≡ false → r ≡ readerIn handle → Saves r table out s after → n ≡ savedNumber (writtenOf s [])
       → answered n after ≡ saveHost handle table out
   unfolding saveHost
-  save-goes r s after f g h i = rw (not-not-call b (isHandle handle) e f, i) (ap savedAs (rw g at h))
+  save-goes r s after f g h i =
+      rw (not-not-call b (isHandle handle) e f, i) (number-any s [] after ∙ ap savedAs (rw g at h))
 
 -- ---- a line
 
@@ -228,16 +242,21 @@ module _ (handle table : List ℕ) (k : ℕ) (out : List ℕ) {b : Bool} (e : b 
   unfolding lineHost
   line-no-handle f = rw (not-call b (isHandle handle) e f)
 
-  module _ (f : not b ≡ false) (h : Head) (g : h ≡ headOf handle) {w : Bool} (i : w ≡ withinLimits (readerWith h (part handle headSize heldSize)) table) where
+  module _ (f : not b ≡ false) (h : Head) (g : h ≡ headOf handle) {w : Bool} (i : w ≡ lentWithin h (part handle headSize heldSize) table) where
+    limits : w ≡ withinLimits (readerIn handle) table
+    limits =
+        let l = handle-length handle (not-not-call b (isHandle handle) e f) in
+        (rw g at (limits-of (readerWith h (part handle headSize heldSize)) (part-length handle headSize heldSize (omega (arith, l))) h refl table i))
+
     pub line-unfit : not w ≡ true → answered 20 out ≡ lineHost handle table k out
     unfolding lineHost
-    line-unfit j = rw (not-not-call b (isHandle handle) e f, not-call w (withinLimits (readerIn handle) table) (rw g at i) j)
+    line-unfit j = rw (not-not-call b (isHandle handle) e f, not-call w (withinLimits (readerIn handle) table) limits j)
 
     pub line-goes : {n : ℕ} (x : Ending) (t : Text) (after : List ℕ) → not w ≡ false → x ≡ endingOf h → t ≡ lineWith (lineOf k (h .line .next) (h .board .rows) table x)
         → answered n after ≡ lineTo (textOf t) out → answered n after ≡ lineHost handle table k out
     unfolding lineHost
     line-goes x t after j l m o =
-        rw (not-not-call b (isHandle handle) e f, not-not-call w (withinLimits (readerIn handle) table) (rw g at i) j)
+        rw (not-not-call b (isHandle handle) e f, not-not-call w (withinLimits (readerIn handle) table) limits j)
         (o ∙ ap (λ (y : Text). lineTo (textOf y) out) m
         ∙ ap (λ (ys : List ℕ). lineTo ys out) (text-line (lineOf k (h .line .next) (h .board .rows) table x))
         ∙ ap (λ (y : Ending). lineTo (lineOf k (h .line .next) (h .board .rows) table y) out) l
@@ -269,41 +288,32 @@ reader-there handle blank held h r l m e f g =
 
 -- ---- the size of an image
 
-size-few : (rows : ℕ) → rows ≤ mostRows → sizeFor rows ≤ 33_280
+size-few : (rows : ℕ) → rows ≤ mostRows → sizeFor rows ≤ mostBlocks * blockSize
 unfolding sizeFor blocksFor pagesFor
 size-few rows h = omega arith
 
-module _ (h : Header) (mem out : List ℕ) where
-  room-few : (b : Bool) → h .board .rows ≤ mostRows
-      → SavedFits (cond b (saving (saved.Whole (sizeFor (h .board .rows))) (overlay out 0 (imageOf h mem))) (unsaved ShortOutput out) .answer)
-  room-few true k = size-few (h .board .rows) k
-  room-few false k = tt
+saved-few : (h : Header) (mem out : List ℕ) (s : Saved) (z : List ℕ) → saveOf h mem out ≡ saving s z → SavedFits s
+unfolding headers.withinLimits fits
+saved-few h mem out (saved.Whole n) z e =
+    let a = stored h mem out n z e in
+    let f = both-left (fits (h .board) mem) (numberInRange (h .next)) (a .within) in
+    let few : h .board .rows ≤ mostRows = leb-true (h .board .rows) mostRows (both-right (eqb (length mem) tableSize) _ f) in
+    rw (a .size) (size-few (h .board .rows) few)
+saved-few h mem out (saved.Unsaved r) z e = omega arith
 
-  kept-few : (b : Bool) → h .board .rows ≤ mostRows
-      → SavedFits (cond b (cond (leb (sizeFor (h .board .rows)) (length out)) (saving (saved.Whole (sizeFor (h .board .rows))) (overlay out 0 (imageOf h mem))) (unsaved ShortOutput out)) (unsaved BadContents out) .answer)
-  kept-few true k = room-few (leb (sizeFor (h .board .rows)) (length out)) k
-  kept-few false k = tt
-
-  few : images.withinLimits h mem ≡ true → h .board .rows ≤ mostRows
-  unfolding images.withinLimits fits
-  few e = leb-true (h .board .rows) mostRows (both-right (eqb (length mem) tableSize) _ (both-left (fits (h .board) mem) (numberInRange (h .next)) e))
-
-  limits-few : (b : Bool) → images.withinLimits h mem ≡ b
-      → SavedFits (cond b (cond (headerKeeps h && rowsKeep (h .board .rows) mem) (cond (leb (sizeFor (h .board .rows)) (length out)) (saving (saved.Whole (sizeFor (h .board .rows))) (overlay out 0 (imageOf h mem))) (unsaved ShortOutput out)) (unsaved BadContents out)) (unsaved Misfit out) .answer)
-  limits-few true e = kept-few (headerKeeps h && rowsKeep (h .board .rows) mem) (few e)
-  limits-few false e = tt
-
-  saves-few : SavedFits (saveOf h mem out .answer)
-  unfolding saveOf
-  saves-few = limits-few (images.withinLimits h mem) refl
+count-any : (s : Saved) (x y : List ℕ) → writtenOf s x .count ≡ writtenOf s y .count
+count-any (saved.Whole n) x y = refl
+count-any (saved.Unsaved r) x y = refl
 
 pub saves-fit : (r : Reader) (memory out : List ℕ) (s : Saved) (after : List ℕ) → Saves r memory out s after → SavedFits s
 unfolding saveAll
-saves-fit r memory out s after e = rw (ap (λ (x : Saving). x .answer) e) (by (withinLimits r memory))
+saves-fit r memory out s after e = rw (count-any s [] after ∙ ap (λ (w : Written). w .count) e) (by (withinLimits r memory))
   where
-    by : (b : Bool) → SavedFits (cond b (saveOf (headerOf r) memory out) (unsaved Misfit out) .answer)
-    by true = saves-few (headerOf r) memory out
-    by false = tt
+    by : (b : Bool) → cond b (writtenBy (saveOf (headerOf r) memory out)) (record { refusal = 20; count = 0; out = out }) .count ≤ mostBlocks * blockSize
+    by true =
+        let o = saveOf (headerOf r) memory out in
+        rw (count-any (o .answer) (o .out) []) (saved-few (headerOf r) memory out (o .answer) (o .out) refl)
+    by false = omega arith
 
 -- ---- what is told
 
@@ -365,8 +375,11 @@ started-ready e = rw e
 pub started-refused : {a : StartAnswer} {r : Refusal} {n : ℕ} → a ≡ started.Refused r → n ≡ refusalNumber r → n ≡ startNumber a
 started-refused e f = rw (e, f)
 
-pub saved-whole : {s : Saved} {n : ℕ} → s ≡ saved.Whole n → n * 256 ≡ savedNumber s
-saved-whole e = rw e
+pub saved-whole : {s : Saved} {n : ℕ} → s ≡ saved.Whole n → n * 256 ≡ savedNumber (writtenOf s [])
+saved-whole e = rw e (omega arith)
 
-pub saved-fits : {s : Saved} {n : ℕ} → s ≡ saved.Whole n → SavedFits s → n ≤ 33_280
+pub saved-not : {s : Saved} {r : image.Refusal} {n : ℕ} → s ≡ saved.Unsaved r → n ≡ images.refusalNumber r → n ≡ savedNumber (writtenOf s [])
+saved-not e f = rw (e, f) (omega arith)
+
+pub saved-fits : {s : Saved} {n : ℕ} → s ≡ saved.Whole n → SavedFits s → n ≤ mostBlocks * blockSize
 saved-fits e f = rw e at f

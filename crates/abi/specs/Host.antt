@@ -14,12 +14,9 @@ use Rattle.packet.specs.Stream.{State, live, ended, refused}
 use Rattle.packet.specs.Session.{Session, Event, login, rejected, message, heartbeat, end, skipped}
 use Rattle.handle.specs.Handle.{headSize, handleSize, isHandle, headOf, headBytes}
 use Rattle.handle.specs.declared.Head.{Head}
-use Rattle.image.specs.Save as images
-use Rattle.image.specs.Save.{Saving}
+use Rattle.block.specs.Block.{blockSize}
+use Rattle.image.specs.Shape.{mostBlocks}
 use Rattle.image.specs.declared.Saved.{Saved}
-use Rattle.image.specs.declared.Saved.the-variants.{Whole, Unsaved}
-use Rattle.image.specs.declared.Verdict.{Verdict}
-use Rattle.image.specs.declared.Verdict.the-variants as verdict
 use Rattle.listing.specs.Lines.{lineOf}
 use Rattle.listing.specs.declared.Ending.{Ending}
 use Rattle.listing.specs.declared.Ending.the-variants as ending
@@ -27,10 +24,10 @@ use Rattle.listing.specs.declared.Text.{Text}
 use Rattle.record.specs.Places.{recordSize}
 use Rattle.record.specs.Record.{Answered, answered, recordBytes}
 use Rattle.reader.specs.Deliver.{Table, Said}
-use Rattle.reader.specs.View.{Seen, readerWith, stateOf, answerOf}
+use Rattle.reader.specs.View.{Seen, readerWith, stateOf, memoryIn, answerOf}
 use Rattle.reader.specs.Limits.{withinLimits}
 use Rattle.reader.specs.Calls.{Begun, startAll, stepAll, placesAfter}
-use Rattle.reader.specs.Saving.{Came, saveAll, restoreAll}
+use Rattle.reader.specs.Saving.{Written, writtenOf, Came, saveAll, restoreAll}
 use Rattle.reader.specs.declared.Reader.{Reader}
 use Rattle.reader.specs.declared.Moved.{Moved}
 
@@ -47,16 +44,11 @@ handleBytes h held = headBytes h ++ held
 abbrev pub noHeld : List ℕ
 noHeld = replicate heldSize 0
 
--- the head of a reader in a state, that holds so many bytes, and its table memory
+-- the head of a reader in a state, that holds so many bytes
 abbrev pub headIn : State (Session Table) → ℕ → Head
 headIn (live s held) used = record { line = s .line; board = s .about .board; ended = false; refusal = 0; used = used }
 headIn (ended s held) used = record { line = s .line; board = s .about .board; ended = true; refusal = 0; used = used }
 headIn (refused s held e n) used = record { line = s .line; board = s .about .board; ended = e; refusal = n; used = used }
-
-abbrev pub memoryIn : State (Session Table) → List ℕ
-memoryIn (live s held) = s .about .memory
-memoryIn (ended s held) = s .about .memory
-memoryIn (refused s held e n) = s .about .memory
 
 -- ---- STARTING AND RESTORING
 
@@ -80,12 +72,8 @@ startedAs b = unheld (b .refusal) (b .state) (b .used)
 unfoldable pub startHost : List ℕ → List ℕ → Left
 startHost handle table = cond (eqb (length handle) handleSize) (startedAs (startAll table)) (left 20 handle table)
 
-abbrev pub verdictNumber : Verdict → ℕ
-verdictNumber verdict.Accepted = 0
-verdictNumber (verdict.Refused r) = images.refusalNumber r
-
 abbrev pub restoredAs : Came → Left
-restoredAs c = unheld (verdictNumber (c .verdict)) (c .state) (c .used)
+restoredAs c = unheld (c .refusal) (c .state) (c .used)
 
 unfoldable pub restoreHost : List ℕ → List ℕ → List ℕ → Left
 restoreHost handle table image = cond (eqb (length handle) handleSize) (restoredAs (restoreAll image table)) (left 20 handle table)
@@ -188,12 +176,11 @@ GoesOn handle table piece event handle′ table′ = isHandle handle ≡ true �
 -- ---- SAVING
 
 -- above the low byte stands the count of bytes written
-abbrev pub savedNumber : Saved → ℕ
-savedNumber (Whole n) = n * 256
-savedNumber (Unsaved r) = images.refusalNumber r
+abbrev pub savedNumber : Written → ℕ
+savedNumber w = w .refusal + w .count * 256
 
-abbrev pub savedAs : Saving → Answered
-savedAs s = answered (savedNumber (s .answer)) (s .out)
+abbrev pub savedAs : Written → Answered
+savedAs w = answered (savedNumber w) (w .out)
 
 -- 20 for bytes that are no handle
 unfoldable pub saveHost : List ℕ → List ℕ → List ℕ → Answered
@@ -203,10 +190,9 @@ saveHost handle table out = cond (isHandle handle) (savedAs (saveAll (readerIn h
 abbrev pub HostSaves : List ℕ → List ℕ → List ℕ → ℕ → List ℕ → Type 0
 HostSaves handle table out a out′ = answered a out′ ≡ saveHost handle table out
 
--- the count has room
+-- the count has room: no image is longer
 abbrev pub SavedFits : Saved → Type 0
-SavedFits (Whole n) = n ≤ 33_280
-SavedFits (Unsaved r) = Unit
+SavedFits s = writtenOf s [] .count ≤ mostBlocks * blockSize
 
 -- ---- A LINE OF THE LISTING
 

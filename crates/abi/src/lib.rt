@@ -12,12 +12,14 @@ use reader::StartAnswer;
 use record::RECORD_SIZE;
 ghost use mathlib.Core.Path.{_≡_};
 ghost use Prim.Native.Nat.{_≤_};
+ghost use mathlib.Core.List.{[]};
 ghost use lib.ListN.{length};
 ghost use Rattle.table.specs.Memory.{tableSize};
 ghost use Rattle.handle.specs.Handle.{handleSize};
 ghost use Rattle.record.specs.Places.{recordSize};
 ghost use Rattle.record.specs.Record.{answered, readAnswer, writeAnswer};
-ghost use Rattle.abi.specs.Host.{readerIn, handleBytes, noHeld, verdictNumber, movedOf, movedBy, Follows, GoesOn, HostSteps, HostStarts, StartsOn, HostRestores, RestoresOn, savedNumber, SavedFits, HostSaves, endingOf, lineTo, textOf, lineHost};
+ghost use Rattle.reader.specs.Saving.{writtenOf, restoreNumber};
+ghost use Rattle.abi.specs.Host.{readerIn, handleBytes, noHeld, movedOf, movedBy, Follows, GoesOn, HostSteps, HostStarts, StartsOn, HostRestores, RestoresOn, savedNumber, SavedFits, HostSaves, endingOf, lineTo, textOf, lineHost};
 
 mod told;
 
@@ -122,7 +124,7 @@ fn reader_in(handle: &[u8]) -> Reader
 // What saving said, as a number: 256 times the count of bytes, or the refusal.
 fn saved_number(saved: Saved) -> u32
     requires { ⌜ SavedFits saved ⌝ }
-    ensures { λ r. ⌜ r ≡ savedNumber saved ⌝ }
+    ensures { λ r. ⌜ r ≡ savedNumber (writtenOf saved []) ⌝ }
 {
     match saved {
         Saved::Whole(n) => n as u32 * 256,
@@ -142,7 +144,7 @@ pub extern "C" fn nelqubat_save(handle: &[u8], table: &[u8], out: &mut [u8]) -> 
 }
 
 fn verdict_number(verdict: image::Verdict) -> u32
-    ensures { λ r. ⌜ r ≡ verdictNumber verdict ⌝ }
+    ensures { λ r. ⌜ r ≡ restoreNumber verdict ⌝ }
 {
     match verdict {
         image::Verdict::Accepted => 0,

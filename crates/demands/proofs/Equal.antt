@@ -10,7 +10,7 @@ use Rattle.packet.specs.Session as packets
 use Rattle.packet.specs.Session.{Session, Event}
 use Rattle.reader.specs.Refusals.{refusalNumber, namedIn, named}
 use Rattle.reader.specs.Deliver.{Table, Said}
-use Rattle.reader.specs.View.{eventOf, answerOf, stateOf, Seen, seenOf, steppedWith, heldIn, sessionOf}
+use Rattle.reader.specs.View.{eventOf, answerOf, stateOf, Seen, seenOf, steppedWith, heldIn, sessionIn, sessionOf}
 use Rattle.reader.specs.Calls.{Stepping, Lent, lentOf, LentStepping, Starting, Begun, begunOf, startNumber}
 use Rattle.image.specs.Save.{Saving, saving}
 use Rattle.image.specs.declared.Saved.{Saved}
@@ -32,7 +32,8 @@ use Rattle.handle.specs.declared.Head.{Head}
 use Rattle.reader.specs.declared.Started.{Started}
 use Rattle.reader.proofs.Ways.{some-number}
 use Rattle.demands.specs.Same.{SameReader, SameStep, SameStart, SameRestore}
-use Rattle.demands.proofs.View.{sessionIn, refusalIn, endedIn, session-of, held-of, ended-of, refusal-of}
+use Rattle.demands.proofs.View.{refusalIn, endedIn, session-of, held-of, ended-of, refusal-of}
+use Rattle.demands.proofs.Names.{saved-same, verdicts-same}
 
 -- ---- the code's answer again, from the definition's
 
@@ -168,7 +169,7 @@ equal-starts t a b t₁ t₂ x y =
 -- THEOREM, of saving
 pub equal-saves : (r : Reader) (t out : List ℕ) (a b : Saved) (z₁ z₂ : List ℕ) → Saves r t out a z₁ → Saves r t out b z₂ → (a ≡ b) × (z₁ ≡ z₂)
 equal-saves r t out a b z₁ z₂ x y =
-    let e : saving a z₁ ≡ saving b z₂ = equal-answers x y in
+    let e : saving a z₁ ≡ saving b z₂ = saved-same a b z₁ z₂ (equal-answers x y) in
     (ap (λ (s : Saving). s .answer) e, ap (λ (s : Saving). s .out) e)
 
 -- THEOREM, of restoring
@@ -176,4 +177,4 @@ pub equal-restores : (bytes t : List ℕ) (a b : Restored) (t₁ t₂ : List ℕ
 equal-restores bytes t a b t₁ t₂ x y =
     let e : cameOf a t₁ ≡ cameOf b t₂ = equal-answers x y in
     let r = same-readers (a .reader) (b .reader) t₁ t₂ (ap (λ (q : Came). q .state) e) (ap (λ (q : Came). q .used) e) in
-    record { reader = r .0; verdict = ap (λ (q : Came). q .verdict) e; memory = r .1 }
+    record { reader = r .0; verdict = verdicts-same (a .verdict) (b .verdict) (ap (λ (q : Came). q .refusal) e); memory = r .1 }

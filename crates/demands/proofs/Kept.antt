@@ -30,7 +30,7 @@ use Rattle.packet.proofs.Keep.{VerdictHas}
 use Rattle.table.specs.Board.{fits}
 use Rattle.reader.specs.Refusals.{standing}
 use Rattle.reader.specs.Deliver.{Table, tableOf, Said, deliver}
-use Rattle.reader.specs.View.{heldOf, stateOf, Seen, seenOf, seen, heldIn}
+use Rattle.reader.specs.View.{heldOf, stateOf, Seen, seenOf, seen, sessionIn, heldIn}
 use Rattle.reader.specs.Limits.{unfinished, holdsUnfinished, withinLimits}
 use Rattle.reader.specs.Calls.{stepAll, Stepping}
 use Rattle.reader.specs.declared.Reader.{Reader}
@@ -38,7 +38,7 @@ use Rattle.reader.specs.declared.Stepped.{Stepped}
 use Rattle.demands.specs.Sound.{begin, SoundSession, Ours}
 use Rattle.demands.proofs.Bytes.{bytes-none, bytes-append, frame-bytes}
 use Rattle.demands.proofs.Applied.{Delivers, deliver-kept, sound-fits}
-use Rattle.demands.proofs.View.{sessionIn, refusalIn, session-of, held-of, refusal-of}
+use Rattle.demands.proofs.View.{refusalIn, session-of, held-of, refusal-of}
 
 -- ---- a packet
 

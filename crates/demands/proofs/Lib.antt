@@ -3,6 +3,7 @@ pub mod Applied
 pub mod View
 pub mod Kept
 pub mod Callers
+pub mod Names
 pub mod Equal
 pub mod Refused
 pub mod Cases

@@ -23,7 +23,8 @@ use Rattle.table.specs.Memory.{tableSize}
 use Rattle.table.specs.Board.{freshBoard, fits, startOf}
 use Rattle.reader.specs.Refusals.{refusalNumber, standing, named}
 use Rattle.reader.specs.Deliver.{Table, Said, deliver}
-use Rattle.reader.specs.View.{sessionOf, heldOf, stateOf, liveOf, Seen, seenOf, seen, heldIn, answerTexts, answerOf, stillOf, readyOf}
+use Rattle.reader.specs.Shapes.{liveOf}
+use Rattle.reader.specs.View.{sessionOf, heldOf, stateOf, Seen, seenOf, seen, sessionIn, heldIn, answerTexts, answerOf, stillOf, readyOf}
 use Rattle.reader.specs.Limits.{withinLimits}
 use Rattle.reader.specs.Calls.{stepAll, Stepping, startAll, Starting}
 use Rattle.reader.specs.declared.Refusal.{Refusal}
@@ -39,7 +40,7 @@ use Rattle.demands.specs.Callers.{Steps}
 use Rattle.demands.specs.Sound.{begin}
 use Rattle.demands.specs.Same.{SameStep, SameStart}
 use Rattle.demands.specs.Refused.{Leaves}
-use Rattle.demands.proofs.View.{sessionIn, refusalIn, endedIn, session-of, ended-of, refusal-of}
+use Rattle.demands.proofs.View.{refusalIn, endedIn, session-of, ended-of, refusal-of}
 use Rattle.demands.proofs.Applied.{DeniedStands, deliver-undone, deliver-stands}
 use Rattle.demands.proofs.Kept.{fault-stands, stepping-is}
 use Rattle.demands.proofs.Callers.{any-cuts}

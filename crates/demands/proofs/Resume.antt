@@ -22,7 +22,7 @@ use Rattle.image.specs.declared.Saved.the-variants.{Whole}
 use Rattle.image.specs.declared.Verdict.the-variants.{Accepted}
 use Rattle.reader.specs.Refusals.{standing}
 use Rattle.reader.specs.Deliver.{Table, Said, deliver}
-use Rattle.reader.specs.View.{sessionOf, heldOf, stateOf}
+use Rattle.reader.specs.View.{sessionOf, heldOf, stateOf, sessionIn}
 use Rattle.reader.specs.Saving.{Saves, Came, restoreAll, Restores}
 use Rattle.reader.specs.declared.Reader.{Reader}
 use Rattle.reader.specs.declared.Restored.{Restored}
@@ -30,7 +30,7 @@ use Rattle.demands.specs.Callers.{Steps}
 use Rattle.demands.specs.Sound.{SoundSession, Ours}
 use Rattle.demands.specs.Stopped.{StoppedAt, GoesOn}
 use Rattle.demands.proofs.Bytes.{bytes-none, bytes-append, bytes-right, login-bytes}
-use Rattle.demands.proofs.View.{sessionIn, refusalIn, session-of, refusal-of}
+use Rattle.demands.proofs.View.{refusalIn, session-of, refusal-of}
 use Rattle.demands.proofs.Kept.{Kept, kept-ours}
 use Rattle.demands.proofs.Callers.{steps-called, steps-read, steps-ours, unfinished-in}
 use Rattle.demands.proofs.Saved.{ours-saved, comes-back}

@@ -44,7 +44,7 @@ use Rattle.image.proofs.Fresh.{fresh-saved}
 use Rattle.image.proofs.Verdicts.{unsaved-leaves, refused-leaves}
 use Rattle.reader.specs.Refusals.{standing}
 use Rattle.reader.specs.Deliver.{Table}
-use Rattle.reader.specs.View.{sessionOf, stateOf, readyOf}
+use Rattle.reader.specs.View.{sessionOf, stateOf, sessionIn, readyOf}
 use Rattle.reader.specs.Limits.{withinLimits}
 use Rattle.reader.specs.Saving.{headerOf, saveAll, Saves, lineOf, Came, restoreAll, Restores}
 use Rattle.reader.specs.declared.Reader.{Reader}
@@ -53,7 +53,8 @@ use Rattle.demands.specs.Same.{SameReader}
 use Rattle.demands.specs.Sound.{begin, SoundSession, Ours}
 use Rattle.demands.proofs.Bytes.{bytes-none, spaces-bytes}
 use Rattle.demands.proofs.Kept.{Kept, kept-ours, ours-within}
-use Rattle.demands.proofs.View.{sessionIn, session-of}
+use Rattle.demands.proofs.View.{session-of}
+use Rattle.demands.proofs.Names.{saved-same, verdicts-same}
 use Rattle.demands.proofs.Equal.{same-readers}
 
 -- ---- DEMAND 1, of saving: a refusal writes nothing, a success exactly the stated length
@@ -61,13 +62,13 @@ use Rattle.demands.proofs.Equal.{same-readers}
 module _ (r : Reader) (t out : List ℕ) (a : Saved) (z : List ℕ) (h : Saves r t out a z) where
   saves-is : withinLimits r t ≡ true → saveOf (headerOf r) t out ≡ saving a z
   unfolding saveAll
-  saves-is e = sym (rw e at h)
+  saves-is e = let o = saveOf (headerOf r) t out in sym (saved-same a (o .answer) z (o .out) (rw e at h))
 
   -- THEOREM: a handle that breaks a limit, or table memory of the wrong length, is refusal 20
   pub save-20 : withinLimits r t ≡ false → (a ≡ Unsaved Misfit) × (z ≡ out)
   unfolding saveAll
   save-20 e =
-      let g : saving a z ≡ unsaved Misfit out = rw e at h in
+      let g : saving a z ≡ unsaved Misfit out = saved-same a (Unsaved Misfit) z out (rw e at h) in
       (ap (λ (s : Saving). s .answer) g, ap (λ (s : Saving). s .out) g)
 
   -- THEOREM: a refusal, 20, 24 or 25, writes nothing
@@ -93,7 +94,7 @@ module _ (bytes t : List ℕ) (q : Restored) (t₁ : List ℕ) (h : Restores byt
   unfolding restoreAll
   restore-leaves {x} f =
       let o = restoreOf bytes t in
-      let v : o .answer .verdict ≡ verdict.Refused x = sym (ap (λ (c : Came). c .verdict) h) ∙ f in
+      let v : o .answer .verdict ≡ verdict.Refused x = sym (verdicts-same (q .verdict) (o .answer .verdict) (ap (λ (c : Came). c .refusal) h)) ∙ f in
       let w : o ≡ restoring (images.restored (verdict.Refused x) (o .answer .header)) (o .memory)
       = ap (λ (y : Verdict). restoring (images.restored y (o .answer .header)) (o .memory)) v in
       let g = refused-leaves bytes t (o .memory) (o .answer .header) x w in
@@ -154,7 +155,7 @@ module _ (bytes t : List ℕ) (q : Restored) (t₁ : List ℕ) (h : Restores byt
   unfolding restoreAll
   accepted-is =
       let o = restoreOf bytes t in
-      ap (λ (y : Verdict). restoring (images.restored y (o .answer .header)) (o .memory)) (sym (ap (λ (c : Came). c .verdict) h) ∙ v)
+      ap (λ (y : Verdict). restoring (images.restored y (o .answer .header)) (o .memory)) (sym (verdicts-same (q .verdict) (o .answer .verdict) (ap (λ (c : Came). c .refusal) h)) ∙ v)
 
   -- the session that an image of bytes names
   header-name : Bytes bytes → Bytes (restoreOf bytes t .answer .header .session)
@@ -244,7 +245,7 @@ module _ (r : Reader) (t : List ℕ) (o : Ours r t) (out : List ℕ) (room : siz
       let back : restoreOf (part z 0 n) t₀ ≡ restoring (images.restored verdict.Accepted (headerOf r)) t
       = saved-restored (headerOf r) t out t₀ z n (o .sound .ten) l whole
       ∙ ap (restoring (images.restored verdict.Accepted (headerOf r))) (ours-cleared r t o) in (
-        ap (λ (x : Came). x .verdict) g ∙ ap (λ (x : Restoring). x .answer .verdict) back,
+        verdicts-same (q .verdict) (restoreOf (part z 0 n) t₀ .answer .verdict) (ap (λ (x : Came). x .refusal) g) ∙ ap (λ (x : Restoring). x .answer .verdict) back,
         ap (λ (x : Came). x .state) g ∙ ap (λ (x : Restoring). live (sessionOf (lineOf (x .answer .header)) (x .answer .header .board) (x .memory)) []) back,
       )
 

@@ -9,15 +9,10 @@ use lib.Dec.{eqb}
 use Rattle.packet.specs.Stream.{State, live, ended, refused}
 use Rattle.packet.specs.Session.{Session}
 use Rattle.reader.specs.Deliver.{Table}
-use Rattle.reader.specs.View.{sessionOf, heldOf, stateOf, heldIn}
+use Rattle.reader.specs.View.{sessionOf, heldOf, stateOf, sessionIn, heldIn}
 use Rattle.reader.specs.declared.Reader.{Reader}
 
 -- ---- what a state has, whichever it is
-
-abbrev pub sessionIn : State (Session Table) → Session Table
-sessionIn (live s held) = s
-sessionIn (ended s held) = s
-sessionIn (refused s held e n) = s
 
 abbrev pub refusalIn : State (Session Table) → ℕ
 refusalIn (live s held) = 0

@@ -1,8 +1,9 @@
 -- The small set of document 01, C1 to C12: one table of questions with their answers.
 -- Assumes nothing.
 use Prim.Native.Nat.{ℕ, _-_, _/_}
-use mathlib.Core.Bool.{Bool, true, false}
+use mathlib.Core.Bool.{Bool, true, false, cond}
 use mathlib.Core.List.{List, [], _∷_, _++_}
+use lib.Dec.{eqb}
 use lib.ListN.{length, replicate}
 use Rattle.field.specs.Bytes.{part}
 use Rattle.message.specs.Message as messages
@@ -19,14 +20,10 @@ use Rattle.packet.specs.Session.{Session}
 use Rattle.row.specs.Changes.{widened}
 use Rattle.table.specs.Board.{freshBoard}
 use Rattle.block.specs.Block.{blockSize, checkedSize}
-use Rattle.image.specs.Save as images
-use Rattle.image.specs.Save.{Saving}
-use Rattle.image.specs.declared.Saved.{Saved}
-use Rattle.image.specs.declared.Saved.the-variants as saved
 use Rattle.reader.specs.Deliver.{Table, Said}
-use Rattle.reader.specs.View.{readyOf}
+use Rattle.reader.specs.View.{readyOf, memoryIn}
 use Rattle.reader.specs.Calls.{stepAll}
-use Rattle.reader.specs.Saving.{saveAll}
+use Rattle.reader.specs.Saving.{Written, saveAll}
 use Rattle.reader.specs.declared.Reader.{Reader}
 
 -- ---- what is asked
@@ -74,11 +71,6 @@ readerIn (live s held) = readerBy s held false 0
 readerIn (stream.ended s held) = readerBy s held true 0
 readerIn (stream.refused s held e n) = readerBy s held e n
 
-abbrev pub memoryIn : State (Session Table) → List ℕ
-memoryIn (live s held) = s .about .memory
-memoryIn (stream.ended s held) = s .about .memory
-memoryIn (stream.refused s held e n) = s .about .memory
-
 -- a step with each piece, of the reader and the memory that the step before it left
 unfoldable pub calls : Reader → List ℕ → List (List ℕ) → List Told
 calls r memory [] = []
@@ -115,12 +107,11 @@ refusalIn (answer.Is m) = 0
 refusalIn (answer.Refused r) = messages.refusalNumber r
 
 -- how many blocks were saved, and the check of the first; or the number of the refusal
-abbrev pub savedAs : Saved → List ℕ → Answer
-savedAs (saved.Whole n) out = blocks (n / blockSize) (part out checkedSize 2)
-savedAs (saved.Unsaved r) out = number (images.refusalNumber r)
+abbrev pub savedAs : Written → Answer
+savedAs w = cond (eqb (w .refusal) 0) (blocks (w .count / blockSize) (part (w .out) checkedSize 2)) (number (w .refusal))
 
 -- a fresh reader saved to one block
-abbrev pub freshSaved : List ℕ → Saving
+abbrev pub freshSaved : List ℕ → Written
 freshSaved t = saveAll (readyOf freshLine freshBoard) t (replicate blockSize 0)
 
 -- with that table memory
@@ -130,7 +121,7 @@ answered t (loggedOn pieces) = told (calls (readyOf (loggedIn freshLine (replica
 answered t (time m) = number (timeIn (readOf m .answer))
 answered t (accepted m) = number (refusalIn (readOf m .answer))
 answered t (kept m) = number (priceIn (readOf m .answer))
-answered t freshImage = savedAs (freshSaved t .answer) (freshSaved t .out)
+answered t freshImage = savedAs (freshSaved t)
 
 -- ---- messages around a field
 

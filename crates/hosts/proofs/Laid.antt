@@ -1,7 +1,7 @@
 -- Handles that our own calls leave: the reader that they are is the one that was laid there.
 -- Assumes nothing.
 use mathlib.Core.Path.{_≡_, refl, sym, ap, _∙_, subst}
-use mathlib.Core.Bool.{Bool, true, false, _&&_, _||_, cond}
+use mathlib.Core.Bool.{Bool, true, false, _||_}
 use mathlib.Core.List.{List, [], _∷_, _++_}
 use Prim.Native.Nat.{ℕ, _+_, _-_, _^_, _≤_, _<_}
 use native.Mathlib.Omega.{arith}
@@ -11,9 +11,11 @@ use lib.ListN.{length, take, length-append}
 use lib.Seq.{drop-at, length-take-le}
 use Rattle.field.specs.Bytes.{part, overlay}
 use Rattle.field.specs.Limits.{highestNumber, numberInRange}
+use Rattle.field.specs.Text.{every}
 use Rattle.field.proofs.Bools.{both-left, both-right}
 use Rattle.field.proofs.Parts.{part-length, part-all, overlay-length, take-overlay-end}
 use Rattle.message.specs.Letters.{listed, eventCodes}
+use Rattle.message.proofs.Typed.{listed-below}
 use Rattle.message.specs.Message as messages
 use Rattle.message.specs.declared.Refusal as messageRefusal
 use Rattle.message.specs.declared.Refusal.the-variants as messageRefusals
@@ -29,7 +31,7 @@ use Rattle.packet.specs.Session.{Session, Event, Delivered, done, denied, deliv
 use Rattle.packet.specs.declared.Line.{Line}
 use Rattle.packet.specs.declared.Fault.{Fault}
 use Rattle.packet.specs.declared.Fault.the-variants as fault
-use Rattle.packet.proofs.Rules.{both, never}
+use Rattle.packet.proofs.Rules.{both}
 use Rattle.packet.proofs.Frame.{short-fits}
 use Rattle.packet.proofs.Keep.{VerdictHas, StateHas, Keeping, call-keeps}
 use Rattle.table.specs.Board as tables
@@ -42,28 +44,29 @@ use Rattle.table.specs.declared.Verdict.{Verdict}
 use Rattle.table.specs.declared.Verdict.the-variants as table
 use Rattle.handle.specs.Handle.{headSize, handleSize, isHandle, headBytes}
 use Rattle.handle.specs.declared.Head.{Head}
-use Rattle.handle.proofs.Rounds.{HeadFits, head-length, head-before, still-handle, handle-length, session-length}
+use Rattle.handle.proofs.Rounds.{HeadFits, head-length, head-before, still-handle, handle-length}
 use Rattle.reader.specs.Deliver.{Table, tableOf, Said, said, settledBy, heard, deliver}
-use Rattle.reader.specs.View.{readerWith, stateOf, heldIn}
+use Rattle.reader.specs.View.{readerWith, stateOf, memoryIn, heldIn}
 use Rattle.reader.specs.Calls.{placesBy}
 use Rattle.reader.specs.declared.Reader.{Reader}
-use Rattle.abi.specs.Host.{readerIn, handleBytes, headIn, memoryIn}
+use Rattle.abi.specs.Host.{readerIn, handleBytes, headIn}
 use Rattle.abi.proofs.Rounds.{reader-back}
 use Rattle.demands.specs.Sound.{SoundSession, Ours}
 use Rattle.demands.proofs.Kept.{Kept, kept-ours}
 use Rattle.demands.proofs.View.{held-of}
 use Rattle.hosts.proofs.Told.{stands-low}
 
--- ---- a session has ten bytes, and a refusal that stands is some
-
-abbrev pub Ten : Session Table → Type 0
-Ten s = length (s .line .session) ≡ 10
+-- ---- a refusal that stands is some
 
 abbrev pub Some : ℕ → Type 0
 Some n = eqb n 0 ≡ false
 
-abbrev pub Sized : State (Session Table) → Type 0
-Sized = StateHas Ten Some
+-- nothing is asked of the session
+abbrev Any : Session Table → Type 0
+Any s = Unit
+
+abbrev pub StandsSome : State (Session Table) → Type 0
+StandsSome = StateHas Any Some
 
 fault-some : (f : Fault) → Some (faultNumber f)
 fault-some fault.BadLength = refl
@@ -103,64 +106,50 @@ deliver-some : (t : Table) (body : List ℕ) → DeniedSome (deliver t body)
 unfolding deliver
 deliver-some t body = heard-some t (readOf body .texts) (readOf body .answer)
 
-delivered-sized : (l : Line) (d : Delivered Table Said) → length (l .session) ≡ 10 → DeniedSome d → VerdictHas Ten Some (delivered l d)
-delivered-sized l (done x t) h s = h
-delivered-sized l (denied n t) h s = (h, s)
+delivered-some : (l : Line) (d : Delivered Table Said) → DeniedSome d → VerdictHas Any Some (delivered l d)
+delivered-some l (done x t) s = tt
+delivered-some l (denied n t) s = (tt, s)
 
-sized-stays : Keeping deliver Ten Some
-sized-stays =
+some-stays : Keeping deliver Any Some
+some-stays =
     record {
-      logins = λ s body n h w. part-length body 0 10 (omega (arith, w .0));
-      messages = λ s body h w. delivered-sized (s .line) (deliver (s .about) body) h (deliver-some (s .about) body);
+      logins = λ s body n h w. tt;
+      messages = λ s body h w. delivered-some (s .line) (deliver (s .about) body) (deliver-some (s .about) body);
       faults = fault-some;
     }
 
-pub step-sized : (st : State (Session Table)) (piece : List ℕ) → Sized st → Sized (stepOf (soupBinTCP deliver) st piece .state)
-step-sized = call-keeps deliver sized-stays
+pub step-some : (st : State (Session Table)) (piece : List ℕ) → StandsSome st → StandsSome (stepOf (soupBinTCP deliver) st piece .state)
+step-some = call-keeps deliver some-stays
 
-pub reader-sized : (r : Reader) (t : List ℕ) → length (r .line .session) ≡ 10 → Sized (stateOf r t)
-reader-sized r t ten = both Sized (eqb (r .refusal) 0) (λ _. both Sized (r .ended) (λ _. ten) (λ _. ten)) (λ e. (ten, e))
+pub reader-some : (r : Reader) (t : List ℕ) → StandsSome (stateOf r t)
+reader-some r t = both StandsSome (eqb (r .refusal) 0) (λ _. both StandsSome (r .ended) (λ _. tt) (λ _. tt)) (λ e. (tt, e))
 
 -- ---- a head has room for what it holds
-
-abbrev allLow : List ℕ → Bool
-allLow [] = true
-allLow (x ∷ xs) = leb x 255 && allLow xs
-
-code-low : (x c : ℕ) (y later : Bool) → eqb x c ≡ y → x ≤ 255 → (later ≡ true → c < 256) → cond y true later ≡ true → c < 256
-code-low x c true later e l go h = omega (arith, eqb-true x c e)
-code-low x c false later e l go h = go h
-
-listed-low : (xs : List ℕ) (c : ℕ) → allLow xs ≡ true → listed xs c ≡ true → c < 256
-unfolding listed
-listed-low [] c a h = absurd (never h)
-listed-low (x ∷ xs) c a h =
-    code-low x c (eqb x c) (listed xs c) refl (leb-true x 255 (both-left (leb x 255) (allLow xs) a)) (listed-low xs c (both-right (leb x 255) (allLow xs) a)) h
 
 live-low : (n : ℕ) (y : Bool) → eqb n 0 ≡ y → y || numberInRange n ≡ true → n < 256 ^ 8
 live-low n true e h = omega (arith, eqb-true n 0 e)
 live-low n false e h = omega (arith, leb-true n highestNumber (both-right (leb 1 n) (leb n highestNumber) h))
 
-head-fits : (s : Session Table) → SoundSession s → Ten s → (e : Bool) (n used : ℕ) → n ≤ 16 → used ≤ heldSize
+head-fits : (s : Session Table) → SoundSession s → (e : Bool) (n used : ℕ) → n ≤ 16 → used ≤ heldSize
     → HeadFits (record { line = s .line; board = s .about .board; ended = e; refusal = n; used = used })
-unfolding boardKeeps
-head-fits s h ten e n used low few =
+unfolding boardKeeps every
+head-fits s h e n used low few =
     let b : Board = s .about .board in
     let events : Bool = listed (0 ∷ eventCodes) (b .event) in
     record {
-      session = ten;
+      session = h .ten;
       next = omega (arith, h .range .most);
       live = live-low (b .live) (eqb (b .live) 0) refl (both-right events _ (h .about .board));
       rows = omega (arith, h .about .rows .few);
       used = omega arith;
       refusal = omega arith;
-      event = listed-low (0 ∷ eventCodes) (b .event) refl (both-left events _ (h .about .board));
+      event = listed-below (0 ∷ eventCodes) (b .event) refl (both-left events _ (h .about .board));
     }
 
-pub head-in-fits : (st : State (Session Table)) → Kept st → Sized st → HeadFits (headIn st (length (heldIn st)))
-head-in-fits (live s held) k z = head-fits s (k .sound) z false 0 (length held) (omega arith) (omega (arith, short-fits held (k .short)))
-head-in-fits (ended s held) k z = head-fits s (k .sound) z true 0 (length held) (omega arith) (omega (arith, short-fits held (k .short)))
-head-in-fits (refused s held e n) k z = head-fits s (k .sound) (z .0) e n (length held) (stands-low n (k .stands)) (omega (arith, short-fits held (k .short)))
+pub head-in-fits : (st : State (Session Table)) → Kept st → HeadFits (headIn st (length (heldIn st)))
+head-in-fits (live s held) k = head-fits s (k .sound) false 0 (length held) (omega arith) (omega (arith, short-fits held (k .short)))
+head-in-fits (ended s held) k = head-fits s (k .sound) true 0 (length held) (omega arith) (omega (arith, short-fits held (k .short)))
+head-in-fits (refused s held e n) k = head-fits s (k .sound) e n (length held) (stands-low n (k .stands)) (omega (arith, short-fits held (k .short)))
 
 -- ---- a state laid in bytes comes back
 
@@ -178,7 +167,7 @@ used-in (live s held) n = refl
 used-in (ended s held) n = refl
 used-in (refused s held e k) n = refl
 
-state-back : (st : State (Session Table)) → Sized st → (places : List ℕ) → take (length (heldIn st)) places ≡ heldIn st
+state-back : (st : State (Session Table)) → StandsSome st → (places : List ℕ) → take (length (heldIn st)) places ≡ heldIn st
     → stateOf (readerWith (headIn st (length (heldIn st))) places) (memoryIn st) ≡ st
 state-back (live s held) z places e = ap (live s) e
 state-back (ended s held) z places e = ap (ended s) e
@@ -189,13 +178,13 @@ pub record HostOurs (handle table : List ℕ) : Type 0 where
   pub handle-is : isHandle handle ≡ true
   pub ours : Ours (readerIn handle) table
 
-module _ (st : State (Session Table)) (k : Kept st) (z : Sized st) (places : List ℕ) (l : length places ≡ heldSize)
+module _ (st : State (Session Table)) (k : Kept st) (z : StandsSome st) (places : List ℕ) (l : length places ≡ heldSize)
     (e : take (length (heldIn st)) places ≡ heldIn st) where
   abbrev laid : List ℕ
   laid = handleBytes (headIn st (length (heldIn st))) places
 
   reader-laid : readerIn laid ≡ readerWith (headIn st (length (heldIn st))) places
-  reader-laid = reader-back (headIn st (length (heldIn st))) places (head-in-fits st k z) l
+  reader-laid = reader-back (headIn st (length (heldIn st))) places (head-in-fits st k) l
 
   pub laid-state : stateOf (readerIn laid) (memoryIn st) ≡ st
   laid-state = ap (λ (r : Reader). stateOf r (memoryIn st)) reader-laid ∙ state-back st z places e
@@ -204,7 +193,7 @@ module _ (st : State (Session Table)) (k : Kept st) (z : Sized st) (places : Lis
   laid-ours =
       let u : readerIn laid .used ≡ length (heldIn st) = ap (λ (r : Reader). r .used) reader-laid ∙ used-in st (length (heldIn st)) in
       record {
-        handle-is = laid-handle (headIn st (length (heldIn st))) places (head-in-fits st k z .session) l;
+        handle-is = laid-handle (headIn st (length (heldIn st))) places (head-in-fits st k .session) l;
         ours = kept-ours (readerIn laid) (memoryIn st) (subst Kept (sym laid-state) k) (omega (arith, u, short-fits (heldIn st) (k .short)));
       }
 
@@ -248,9 +237,6 @@ module _ (piece places : List ℕ) (long : length places ≡ heldSize) where
 -- ---- what a handle holds
 
 module _ (handle table : List ℕ) (o : HostOurs handle table) where
-  pub own-sized : Sized (stateOf (readerIn handle) table)
-  own-sized = reader-sized (readerIn handle) table (session-length handle (handle-length handle (o .handle-is)))
-
   pub own-long : length (part handle headSize heldSize) ≡ heldSize
   own-long = part-length handle headSize heldSize (omega (arith, handle-length handle (o .handle-is)))
 

@@ -4,7 +4,7 @@ use mathlib.Core.Path.{_≡_, refl, sym, ap, _∙_, subst}
 use mathlib.Core.Logic.{_⊎_}
 use mathlib.Core.Bool.{true, false}
 use mathlib.Core.List.{List, [], _++_}
-use Prim.Native.Nat.{ℕ, _*_, _/_, _≤_}
+use Prim.Native.Nat.{ℕ, _+_, _*_, _/_, _≤_}
 use native.Mathlib.Omega.{arith}
 use borrow.Author.Tests.{eq-eqb}
 use lib.ListN.{length}
@@ -13,20 +13,22 @@ use Rattle.packet.specs.Stream.{State, live, reading}
 use Rattle.packet.specs.Line.{LoggedIn}
 use Rattle.packet.specs.Session.{Session, Event, soupBinTCP, anyLogin, restored, loginPacket}
 use Rattle.table.specs.Memory.{tableSize}
-use Rattle.image.specs.Save.{saving, sizeFor}
+use Rattle.image.specs.Save.{Saving, sizeFor, saveOf}
 use Rattle.image.specs.Restore.{restoreOf}
 use Rattle.image.specs.declared.Saved.{Saved}
+use Rattle.image.specs.declared.Saved.the-variants.{Whole, Unsaved}
 use Rattle.image.specs.declared.Verdict.the-variants.{Accepted}
 use Rattle.handle.specs.Handle.{handleSize, headOf}
 use Rattle.record.specs.Record.{Answered, answered}
 use Rattle.reader.specs.Deliver.{Table, Said, deliver}
 use Rattle.reader.specs.View.{sessionOf, heldOf, stateOf, heldIn, readyOf}
 use Rattle.reader.specs.Saving as readers
-use Rattle.reader.specs.Saving.{saveAll, lineOf, restoreAll}
+use Rattle.reader.specs.Saving.{headerOf, Written, writtenOf, writtenBy, saveAll, restoreNumber, lineOf, restoreAll}
 use Rattle.reader.specs.declared.Restored.{Restored}
-use Rattle.abi.specs.Host.{readerIn, headIn, Left, left, unheld, verdictNumber, restoredAs, restoreHost, savedNumber, savedAs, saveHost, HostSaves, HostRestores}
+use Rattle.abi.specs.Host.{readerIn, headIn, Left, left, unheld, restoredAs, restoreHost, savedNumber, savedAs, saveHost, HostSaves, HostRestores}
 use Rattle.abi.proofs.Heads.{head-in}
 use Rattle.demands.specs.Stopped.{StoppedAt, GoesOn}
+use Rattle.demands.proofs.Kept.{ours-within}
 use Rattle.demands.proofs.Saved.{ours-saved, comes-back}
 use Rattle.demands.proofs.Stopped.{Took, called-took, stopped-at}
 use Rattle.demands.proofs.Resume.{stopped-logged, given-bytes, resumed, restored-kept}
@@ -40,6 +42,11 @@ same-heads h t h′ t′ o o′ e =
     let u : readerIn h .used ≡ readerIn h′ .used
     = own-used h t o ∙ ap (λ (st : State (Session Table)). length (heldIn st)) e ∙ sym (own-used h′ t′ o′) in
     sym (head-in (readerIn h) t) ∙ (λ i. headIn (e i) (u i)) ∙ head-in (readerIn h′) t′
+
+-- the output is what was left
+out-of : (s : Saved) (z : List ℕ) → writtenOf s z .out ≡ z
+out-of (Whole n) z = refl
+out-of (Unsaved r) z = refl
 
 -- A handle of ours, by its own bytes neither ended nor refused, is stepped with bytes. It is logged in, or a login is among them, and it is stopped before
 -- any end.
@@ -77,19 +84,31 @@ module _ (h₀ t₀ : List ℕ) (o₀ : HostOurs h₀ t₀) (open₀ : (headOf h
     abbrev size : ℕ
     size = sizeFor (headOf handle .board .rows)
 
+    abbrev wrote : Saving
+    wrote = saveOf (headerOf (readerIn handle)) table out
+
     abbrev said : Saved
-    said = saveAll (readerIn handle) table out .answer
+    said = wrote .answer
+
+    save-goes : saveAll (readerIn handle) table out ≡ writtenBy wrote
+    unfolding saveAll
+    save-goes = rw (ours-within (readerIn handle) table (own .ours))
 
     save-is : answered a₁ z ≡ savedAs (saveAll (readerIn handle) table out)
     unfolding saveHost
     save-is = rw (own .handle-is) at save
 
     saves : readers.Saves (readerIn handle) table out said z
-    saves = ap (λ (q : Answered). saving said (q .memory)) save-is
+    saves =
+        ap (writtenOf said) (ap (λ (q : Answered). q .memory) save-is ∙ ap (λ (w : Written). w .out) save-goes ∙ out-of said (wrote .out)) ∙ sym save-goes
 
     -- THEOREM: which is not refused; the answer is the count of its bytes
     pub saved : a₁ ≡ size * 256
-    saved = ap (λ (q : Answered). q .number) save-is ∙ ap savedNumber (ours-saved (readerIn handle) table (own .ours) out room said z saves)
+    saved =
+        let whole = ours-saved (readerIn handle) table (own .ours) out room said z saves in
+        let number : a₁ ≡ 0 + size * 256
+        = ap (λ (q : Answered). q .number) save-is ∙ ap savedNumber save-goes ∙ ap (λ (s : Saved). savedNumber (writtenOf s (wrote .out))) whole in
+        omega (arith, number)
 
     count : a₁ / 256 ≡ size
     count = omega (arith, saved)
@@ -125,14 +144,14 @@ module _ (h₀ t₀ : List ℕ) (o₀ : HostOurs h₀ t₀) (open₀ : (headOf h
       -- THEOREM: which is not refused either
       pub not-refused : a₂ ≡ 0
       unfolding restoreAll
-      not-refused = ap (λ (q : Left). q .number) restore-is ∙ ap verdictNumber (back .0)
+      not-refused = ap (λ (q : Left). q .number) restore-is ∙ ap restoreNumber (back .0)
 
       -- THEOREM: and the handle is ours again, so that it may be stopped again; it waits for its login
       pub waits : Fresh h₂ t₂ (restored session)
       unfolding restoreAll
       waits =
-          unheld-fresh (restored session) (restored-kept session (own .ours .sound)) (own .ours .sound .ten) a₂ (verdictNumber (came .verdict)) h₂ t₂
-          (restore-is ∙ ap (λ (st : State (Session Table)). unheld (verdictNumber (came .verdict)) st 0) (back .1))
+          unheld-fresh (restored session) (restored-kept session (own .ours .sound)) a₂ (restoreNumber (came .verdict)) h₂ t₂
+          (restore-is ∙ ap (λ (st : State (Session Table)). unheld (restoreNumber (came .verdict)) st 0) (back .1))
 
       -- THEOREM: the restored handle is given a login for the saved session and number, and then the bytes that follow the last accepted packet. By
       -- its answers and event memory the later events, and the table and any refusal, are those of the run that never stopped.

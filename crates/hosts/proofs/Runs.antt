@@ -23,11 +23,11 @@ use Rattle.table.specs.Board.{startOf}
 use Rattle.handle.specs.Handle.{headSize, handleSize, headOf}
 use Rattle.record.specs.Places.{recordSize}
 use Rattle.reader.specs.Deliver.{Table, Said, deliver}
-use Rattle.reader.specs.View.{sessionOf, heldOf, stateOf, Seen, seen, heldIn, readyOf}
+use Rattle.reader.specs.View.{sessionOf, heldOf, stateOf, Seen, seen, memoryIn, heldIn, readyOf}
 use Rattle.reader.specs.Calls.{freshOn, verdictNumber, startAll, Starting, stepAll, placesBy, placesAfter}
 use Rattle.reader.specs.declared.Started.{Started}
 use Rattle.reader.specs.declared.StartAnswer.the-variants.{Ready}
-use Rattle.abi.specs.Host.{readerIn, handleBytes, noHeld, headIn, memoryIn, Left, left, unheld, startedAs, startHost, Gone, goneTo, movedBy, toldEvent, told, Stepped, hostStepped, steppedAs, stepHost, HostSteps, HostStarts}
+use Rattle.abi.specs.Host.{readerIn, handleBytes, noHeld, headIn, Left, left, unheld, startedAs, startHost, Gone, goneTo, movedBy, toldEvent, told, Stepped, hostStepped, steppedAs, stepHost, HostSteps, HostStarts}
 use Rattle.demands.specs.Sound.{begin}
 use Rattle.demands.proofs.Bytes.{bytes-left}
 use Rattle.demands.proofs.Kept.{Kept, ours-kept, ours-within, step-kept}
@@ -37,7 +37,7 @@ use Rattle.demands.proofs.Callers.{next-bytes}
 use Rattle.hosts.specs.Events.{takenIn, kindIn, eventsIn, eventsFor}
 use Rattle.hosts.specs.Runs.{HostRun, stop, step, HostDone}
 use Rattle.hosts.proofs.Told.{stands-low, AnswerFits, answer-back, step-fits}
-use Rattle.hosts.proofs.Laid.{Ten, Sized, step-sized, HostOurs, laid-state, laid-ours, step-places, own-sized, own-long, own-used, own-holds}
+use Rattle.hosts.proofs.Laid.{StandsSome, step-some, reader-some, HostOurs, laid-state, laid-ours, step-places, own-long, own-used, own-holds}
 
 -- ---- one step
 
@@ -72,19 +72,19 @@ Stops stream.More st = Unit
 Stops stream.Ended st = endedIn st ≡ true
 Stops (stream.Refused n) st = eqb (refusalIn st) 0 ≡ false
 
-judged-stops : (n : ℕ) (v : stream.Verdict (Session Table) (Event Said)) → Sized (stepJudged n v .state) → Stops (stepJudged n v .answer) (stepJudged n v .state)
+judged-stops : (n : ℕ) (v : stream.Verdict (Session Table) (Event Said)) → StandsSome (stepJudged n v .state) → Stops (stepJudged n v .answer) (stepJudged n v .state)
 judged-stops n (accept e s) z = tt
 judged-stops n (finish e s) z = tt
 judged-stops n (refuse k s) z = z .1
 
 framed-stops : (s : Session Table) (held piece : List ℕ) (f : Framed)
-    → (let x = stepFramed (soupBinTCP deliver) s held piece f in Sized (x .state) → Stops (x .answer) (x .state))
+    → (let x = stepFramed (soupBinTCP deliver) s held piece f in StandsSome (x .state) → Stops (x .answer) (x .state))
 framed-stops s held piece short z = tt
 framed-stops s held piece (badLength r) z = z .1
 framed-stops s held piece (packet l b r) z = judged-stops (length piece - length r) (soupBinTCP deliver s l b) z
 
 step-stops : (st : State (Session Table)) (piece : List ℕ)
-    → (let x = stepOf (soupBinTCP deliver) st piece in Sized (x .state) → Stops (x .answer) (x .state))
+    → (let x = stepOf (soupBinTCP deliver) st piece in StandsSome (x .state) → Stops (x .answer) (x .state))
 unfolding stepOf
 step-stops (live s held) piece z = framed-stops s held piece (frame (held ++ piece)) z
 step-stops (ended s held) piece z = refl
@@ -134,8 +134,8 @@ module _ (handle table piece event : List ℕ) (o : HostOurs handle table) (b : 
   kept : Kept (went .state)
   kept = step-kept before piece b (ours-kept (readerIn handle) table (o .ours))
 
-  sized : Sized (went .state)
-  sized = step-sized before piece (own-sized handle table o)
+  some : StandsSome (went .state)
+  some = step-some before piece (reader-some (readerIn handle) table)
 
   module _ (long : length event ≡ recordSize) where
     is : hostStepped a handle′ table′ event′ ≡ steppedAs (goneTo (seen went) places′) event
@@ -152,10 +152,10 @@ module _ (handle table piece event : List ℕ) (o : HostOurs handle table) (b : 
         record {
           ours =
               subst (λ (y : List ℕ). HostOurs y table′) (sym h)
-              (subst (HostOurs x) (sym t) (laid-ours (went .state) kept sized places′ (p .long) (p .holds)));
+              (subst (HostOurs x) (sym t) (laid-ours (went .state) kept some places′ (p .long) (p .holds)));
           state =
               ap (λ (y : List ℕ). stateOf (readerIn y) table′) h ∙ ap (stateOf (readerIn x)) t
-              ∙ laid-state (went .state) kept sized places′ (p .long) (p .holds);
+              ∙ laid-state (went .state) kept some places′ (p .long) (p .holds);
           events = (λ i. eventsIn (is i .number) (is i .event)) ∙ back .events;
           taken = ap (λ (q : Stepped). takenIn (q .number)) is ∙ back .taken;
         }
@@ -181,7 +181,7 @@ module _ (handle table piece event : List ℕ) (o : HostOurs handle table) (b : 
     says-done k rest =
         by
         (told-stops (went .answer) event (went .taken) (went .state)
-        (subst (λ (n : ℕ). 7 ≤ kindIn n) (ap (λ (q : Stepped). q .number) is) k) (step-stops before piece sized))
+        (subst (λ (n : ℕ). 7 ≤ kindIn n) (ap (λ (q : Stepped). q .number) is) k) (step-stops before piece some))
       where
         w : Went a handle′ table′ event′ went
         w = step-went
@@ -271,16 +271,16 @@ pub record Fresh (handle table : List ℕ) (s : Session Table) : Type 0 where
   pub ours : HostOurs handle table
   pub state : stateOf (readerIn handle) table ≡ live s []
 
-pub unheld-fresh : (s : Session Table) → Kept (live s []) → Ten s → (a n : ℕ) (handle table : List ℕ) → left a handle table ≡ unheld n (live s []) 0
+pub unheld-fresh : (s : Session Table) → Kept (live s []) → (a n : ℕ) (handle table : List ℕ) → left a handle table ≡ unheld n (live s []) 0
     → Fresh handle table s
-unheld-fresh s k ten a n handle table e =
+unheld-fresh s k a n handle table e =
     let blank : length noHeld ≡ heldSize = length-replicate {A = ℕ} heldSize 0 in
     let x : List ℕ = handleBytes (headIn (live s []) 0) noHeld in
     let h : handle ≡ x = ap (λ (q : Left). q .handle) e in
     let t : table ≡ s .about .memory = ap (λ (q : Left). q .table) e in
     record {
-      ours = subst (λ (y : List ℕ). HostOurs y table) (sym h) (subst (HostOurs x) (sym t) (laid-ours (live s []) k ten noHeld blank refl));
-      state = ap (λ (y : List ℕ). stateOf (readerIn y) table) h ∙ ap (stateOf (readerIn x)) t ∙ laid-state (live s []) k ten noHeld blank refl;
+      ours = subst (λ (y : List ℕ). HostOurs y table) (sym h) (subst (HostOurs x) (sym t) (laid-ours (live s []) k tt noHeld blank refl));
+      state = ap (λ (y : List ℕ). stateOf (readerIn y) table) h ∙ ap (stateOf (readerIn x)) t ∙ laid-state (live s []) k tt noHeld blank refl;
     }
 
 -- ---- from a start
@@ -306,7 +306,7 @@ module _ (hm tm : List ℕ) (a : ℕ) (handle table : List ℕ) (start : HostSta
       let n : 0 ≡ verdictNumber (o .applied .verdict) = sym ready ∙ ap (λ (q : Left). q .number) start-long in
       let h : Starting tm r (o .memory) = λ i. record { state = live (freshOn o) []; used = 0; refusal = n i } in
       let w = callers.started tm r (o .memory) h refl .0 in
-      unheld-fresh begin (subst Kept w (ours-kept (r .reader) (o .memory) (callers.start-ours tm r (o .memory) h refl))) refl
+      unheld-fresh begin (subst Kept w (ours-kept (r .reader) (o .memory) (callers.start-ours tm r (o .memory) h refl)))
       a (verdictNumber (o .applied .verdict)) handle table
       (start-long ∙ ap (λ (st : State (Session Table)). unheld (verdictNumber (o .applied .verdict)) st 0) w)
 

@@ -2,10 +2,11 @@
 -- Assumes nothing.
 use mathlib.Core.Path.{_≡_, refl, sym, ap, _∙_}
 use mathlib.Core.List.{List, [], _++_, append-assoc}
-use mathlib.Core.Bool.{Bool, true, false, not}
+use mathlib.Core.Bool.{Bool, true, false, not, _&&_, cond}
 use Prim.Native.Nat.{ℕ, _+_, _-_, _≤_}
 use native.Mathlib.Omega.{arith}
-use lib.Dec.{lit≤}
+use borrow.Author.Tests.{eq-eqb}
+use lib.Dec.{lit≤, eqb}
 use lib.ListN.{length, take, drop, getD, length-append}
 use lib.Seq.{length-take-le}
 use Rattle.field.specs.Bytes.{part, overlay}
@@ -19,6 +20,7 @@ use Rattle.packet.specs.Stream.{accept, finish, refuse, live, stepJudged, stepO
 use Rattle.packet.specs.Refusals.{faultNumber}
 use Rattle.packet.specs.declared.Fault.the-variants.{BadLength}
 use Rattle.packet.proofs.Frame.{bad-there, whole-there}
+use Rattle.packet.proofs.Rules.{not-call, not-not-call}
 use Rattle.packet.proofs.Seen as found
 use Rattle.packet.proofs.Seen.{step-short}
 use Rattle.packet.proofs.Mend.{Copied, copied, mend-length, mend-short, mend-bad, mend-whole, fewer, joined-step, joined-past}
@@ -26,16 +28,17 @@ use Rattle.packet.specs.Session.{Session, Event}
 use Rattle.handle.specs.declared.Head.{Head}
 use Rattle.reader.specs.Refusals.{named}
 use Rattle.reader.specs.Deliver.{Table, Said, deliver}
-use Rattle.reader.specs.View.{sessionOf, readerWith, headPart, Seen, seenOf, seen, beside, judgedOf, closedOf, steppedWith, Closing, BadClosing, moreMoved, stillMoved, unheldOf, fewerMoved}
-use Rattle.reader.specs.Limits.{withinLimits, Fit}
-use Rattle.reader.specs.Calls.{stepAll, placesBy, placesAfter, Lent, lentOf, lentBy, LiveStepping, LentStepping, Stepping}
+use Rattle.reader.specs.View.{sessionOf, readerWith, headPart, Seen, seenOf, seen, steppedWith}
+use Rattle.reader.specs.Limits.{withinLimits, lentWithin}
+use Rattle.reader.specs.Calls.{unfit, stepAll, lentAll, placesBy, placesAfter, Lent, lentOf, lentBy, LentStepping, Stepping}
+use Rattle.reader.specs.Shapes.{Fit, LiveStepping, beside, judgedOf, closedOf, Closing, BadClosing, moreMoved, stillMoved, unheldOf, fewerMoved}
 use Rattle.reader.specs.declared.Refusal.{Refusal}
 use Rattle.reader.specs.declared.Refusal.the-variants as refusal
 use Rattle.reader.specs.declared.StepAnswer.the-variants as answer
 use Rattle.reader.specs.declared.verdicts.Verdict.{Verdict}
 use Rattle.reader.specs.declared.Moved.{Moved}
 use Rattle.reader.specs.declared.Reader.{Reader}
-use Rattle.reader.proofs.Limits.{step-unfit, step-refused, step-ended, goes-live}
+use Rattle.reader.proofs.Limits.{Within, within, lent-within, step-refused, step-ended, goes-live}
 use Rattle.reader.proofs.Pieces.{straight-short, straight-bad, straight-whole}
 
 -- ---- the places, by what a call is seen to do
@@ -175,41 +178,67 @@ module _ (h : Head) (held piece : List ℕ) (n : ℕ) (all : List ℕ) (long : l
 
 -- ---- the ways through a step
 
-module _ (h : Head) (held memory piece : List ℕ) {w : Bool} (e : w ≡ withinLimits (readerWith h held) memory) where
+-- with as many places as a handle has, a step on them is a step
+pub lent-is : (h : Head) (held memory piece : List ℕ) → length held ≡ heldSize → lentAll h held memory piece ≡ stepAll (readerWith h held) memory piece
+unfolding lentAll
+lent-is h held memory piece l = rw (eq-eqb (length held) heldSize l)
+
+module _ (h : Head) (held memory piece : List ℕ) {w : Bool} (e : w ≡ lentWithin h held memory) where
+  none : not w ≡ true → lentAll h held memory piece ≡ unfit (readerWith h held) memory
+  unfolding lentWithin lentAll stepAll
+  none f = by (eqb (length held) heldSize) (not-call w (lentWithin h held memory) e f)
+    where
+      by : (b : Bool) → b && withinLimits (readerWith h held) memory ≡ false
+          → cond b (stepAll (readerWith h held) memory piece) (unfit (readerWith h held) memory) ≡ unfit (readerWith h held) memory
+      by true g = rw g
+      by false g = refl
+
   pub lent-unfit : (m : Moved) → not w ≡ true → m ≡ stillMoved h (answer.Refused refusal.Unfit) → LentStepping h held memory piece m held memory
-  lent-unfit m f g =
-      lent h held piece m held memory
-      (step-unfit (readerWith h held) memory piece e (steppedWith m held) f (ap (λ (x : Moved). steppedWith x held) g))
-      (rw g)
+  lent-unfit m f g = lent h held piece m held memory (ap (λ (x : Moved). seenOf (steppedWith x held) memory) g ∙ sym (none f)) (rw g)
 
   module _ (f : not w ≡ false) where
-    pub lent-refused : length held ≡ heldSize → (m : Moved) (x : Refusal) → (h .refusal ≡ 0 → ⊥) → x ≡ named (h .refusal)
+    places : (length held ≡ heldSize) × (withinLimits (readerWith h held) memory ≡ true)
+    places = lent-within h held memory (not-not-call w (lentWithin h held memory) e f)
+
+    pub lent-places : length held ≡ heldSize
+    lent-places = places .0
+
+    pub lent-fit : Fit (readerWith h held)
+    lent-fit = let x = within (readerWith h held) memory (places .1) in record { most = x .most; start = x .start; short = x .short }
+
+    goes : {x : Seen} → x ≡ stepAll (readerWith h held) memory piece → x ≡ lentAll h held memory piece
+    goes g = g ∙ sym (lent-is h held memory piece lent-places)
+
+    pub lent-refused : (m : Moved) (x : Refusal) → (h .refusal ≡ 0 → ⊥) → x ≡ named (h .refusal)
         → m ≡ stillMoved h (answer.Refused x) → LentStepping h held memory piece m held memory
-    lent-refused l m x i j g =
+    lent-refused m x i j g =
         lent h held piece m held memory
-        (step-refused (readerWith h held) memory piece e f l (steppedWith m held) x i j (ap (λ (y : Moved). steppedWith y held) g))
+        (goes (step-refused (readerWith h held) memory piece (sym (places .1)) refl lent-places (steppedWith m held) x i j (ap (λ (y : Moved). steppedWith y held) g)))
         (rw g)
 
-    pub lent-ended : length held ≡ heldSize → (m : Moved) → h .refusal ≡ 0 → h .ended ≡ true
-        → m ≡ stillMoved h answer.Ended → LentStepping h held memory piece m held memory
-    lent-ended l m i j g =
+    pub lent-ended : (m : Moved) → h .refusal ≡ 0 → h .ended ≡ true → m ≡ stillMoved h answer.Ended → LentStepping h held memory piece m held memory
+    lent-ended m i j g =
         lent h held piece m held memory
-        (step-ended (readerWith h held) memory piece e f l (steppedWith m held) i j (ap (λ (y : Moved). steppedWith y held) g))
+        (goes (step-ended (readerWith h held) memory piece (sym (places .1)) refl lent-places (steppedWith m held) i j (ap (λ (y : Moved). steppedWith y held) g)))
         (rw g)
 
     pub lent-live : (m : Moved) (held′ memory′ : List ℕ) → h .refusal ≡ 0 → h .ended ≡ false
         → LiveStepping h held memory piece m held′ memory′ → LentStepping h held memory piece m held′ memory′
-    lent-live m held′ memory′ i j g = g ∙ ap (lentBy held (h .used) piece) (goes-live (readerWith h held) memory piece e f i j)
+    lent-live m held′ memory′ i j g =
+        g ∙ ap (lentBy held (h .used) piece) (goes (goes-live (readerWith h held) memory piece (sym (places .1)) refl i j))
 
 -- ---- a call by value is one on places that are lent for it
 
-pub limits-of : (r : Reader) (h : Head) (memory : List ℕ) {w : Bool} → h ≡ headPart r → w ≡ withinLimits (readerWith h (r .held)) memory → w ≡ withinLimits r memory
-limits-of r h memory e f = f ∙ ap (λ (x : Head). withinLimits (readerWith x (r .held)) memory) e
+module _ (r : Reader) (long : length (r .held) ≡ heldSize) (h : Head) (e : h ≡ headPart r) (memory : List ℕ) where
+  pub limits-of : {w : Bool} → w ≡ lentWithin h (r .held) memory → w ≡ withinLimits r memory
+  unfolding lentWithin
+  limits-of f = f ∙ (rw (e, eq-eqb (length (r .held)) heldSize long))
 
-module _ (r : Reader) (memory piece : List ℕ) (m : Moved) (held′ memory′ : List ℕ) where
-  pub by-value : (h : Head) → h ≡ headPart r → LentStepping h (r .held) memory piece m held′ memory′ → (after : Reader) → after ≡ readerWith (m .head) held′
+  pub by-value : (piece : List ℕ) (m : Moved) (held′ memory′ : List ℕ) → LentStepping h (r .held) memory piece m held′ memory′
+      → (after : Reader) → after ≡ readerWith (m .head) held′
       → Stepping r memory piece (record { reader = after; taken = m .taken; answer = m .answer; texts = m .texts }) memory′
-  by-value h e f after g =
+  by-value piece m held′ memory′ f after g =
       ap (λ (x : Reader). seenOf (record { reader = x; taken = m .taken; answer = m .answer; texts = m .texts }) memory′) g
       ∙ ap (λ (l : Lent). l .call) f
+      ∙ lent-is h (r .held) memory piece long
       ∙ ap (λ (x : Head). stepAll (readerWith x (r .held)) memory piece) e

@@ -1,6 +1,6 @@
 -- The limits of a handle, and the ways through starting and a step.
 -- Assumes nothing.
-use mathlib.Core.Path.{_≡_, refl, sym}
+use mathlib.Core.Path.{_≡_, refl, sym, ap}
 use mathlib.Core.List.{List, [], _∷_}
 use mathlib.Core.Bool.{Bool, true, false, not, _&&_, _||_}
 use Prim.Native.Nat.{ℕ, _+_, _≤_, _<_}
@@ -19,6 +19,7 @@ use Rattle.packet.specs.declared.Framing.{Framing}
 use Rattle.packet.specs.declared.Framing.the-variants.{Short, BadLength, Whole}
 use Rattle.packet.proofs.Frame.{short-there, bad-there, whole-there}
 use Rattle.packet.proofs.Rules.{both, and-both, not-call, not-not-call, never}
+use Rattle.handle.specs.declared.Head.{Head}
 use Rattle.table.specs.Memory.{mostRows, tableSize}
 use Rattle.table.specs.Board as tables
 use Rattle.table.specs.Board.{fits, outcome, startOf}
@@ -34,10 +35,11 @@ use Rattle.image.specs.declared.Saved.the-variants as saved
 use Rattle.image.specs.declared.Restored as image
 use Rattle.reader.specs.Refusals.{refusalNumber, standing, standingRefusals, namedIn, named}
 use Rattle.reader.specs.Deliver.{deliver}
-use Rattle.reader.specs.View.{heldOf, stateOf, liveOf, seenOf, seen, stillOf, readyOf}
-use Rattle.reader.specs.Limits.{isShort, unfinished, holdsUnfinished, withinLimits, Fit}
+use Rattle.reader.specs.View.{readerWith, heldOf, stateOf, seenOf, seen, stillOf, readyOf}
+use Rattle.reader.specs.Limits.{isShort, unfinished, holdsUnfinished, withinLimits, lentWithin}
 use Rattle.reader.specs.Calls.{stepAll, Stepping, startAll, Starting}
-use Rattle.reader.specs.Saving.{headerOf, saveAll, Saves, lineOf, restoreAll, Restores}
+use Rattle.reader.specs.Shapes.{Fit, liveOf}
+use Rattle.reader.specs.Saving.{headerOf, writtenBy, saveAll, Saves, lineOf, restoreAll, Restores}
 use Rattle.reader.specs.declared.Refusal.{Refusal}
 use Rattle.reader.specs.declared.Refusal.the-variants as refusal
 use Rattle.reader.specs.declared.Reader.{Reader}
@@ -75,35 +77,55 @@ unfinished-short bs e = short-is (frame bs) e
 
 -- ---- the limits, in their order
 
-module _ (r : Reader) (memory : List ℕ) where
-  pub within-size : (length memory ≡ tableSize → ⊥) → false ≡ withinLimits r memory
-  unfolding withinLimits fits
-  within-size h = rw (ne-eqb (length memory) tableSize h)
+module _ (h : Head) (held memory : List ℕ) where
+  pub within-places : (length held ≡ heldSize → ⊥) → false ≡ lentWithin h held memory
+  unfolding lentWithin
+  within-places l = rw (ne-eqb (length held) heldSize l)
 
-  pub within-rows : length memory ≡ tableSize → mostRows < r .board .rows → false ≡ withinLimits r memory
-  unfolding withinLimits fits
-  within-rows e h = rw (eq-eqb (length memory) tableSize e, lt-leb (r .board .rows) mostRows h)
+  module _ (l : length held ≡ heldSize) where
+    abbrev r : Reader
+    r = readerWith h held
 
-  fitting : length memory ≡ tableSize → r .board .rows ≤ mostRows → fits (r .board) memory ≡ true
-  unfolding fits
-  fitting e h = rw (eq-eqb (length memory) tableSize e, le-leb (r .board .rows) mostRows h)
+    lent-as : {b : Bool} → b ≡ withinLimits r memory → b ≡ lentWithin h held memory
+    unfolding lentWithin
+    lent-as e = rw (eq-eqb (length held) heldSize l) e
 
-  pub within-number : {a : Bool} → length memory ≡ tableSize → r .board .rows ≤ mostRows → a ≡ numberInRange (r .line .next) → not a ≡ true
-      → false ≡ withinLimits r memory
-  unfolding withinLimits
-  within-number {a} e h f g = rw (fitting e h, not-call a (numberInRange (r .line .next)) f g)
+    pub within-size : (length memory ≡ tableSize → ⊥) → false ≡ lentWithin h held memory
+    unfolding withinLimits fits
+    within-size n = lent-as (rw (ne-eqb (length memory) tableSize n))
 
-  pub within-held : {a b : Bool} → length memory ≡ tableSize → r .board .rows ≤ mostRows → a ≡ numberInRange (r .line .next) → not a ≡ false
-      → b ≡ holdsUnfinished r → not b ≡ true → false ≡ withinLimits r memory
-  unfolding withinLimits
-  within-held {a} {b} e h f g i j =
-      rw (fitting e h, not-not-call a (numberInRange (r .line .next)) f g, not-call b (holdsUnfinished r) i j)
+    pub within-rows : length memory ≡ tableSize → mostRows < h .board .rows → false ≡ lentWithin h held memory
+    unfolding withinLimits fits
+    within-rows e n = lent-as (rw (eq-eqb (length memory) tableSize e, lt-leb (h .board .rows) mostRows n))
 
-  pub within-stands : {a b s : Bool} → length memory ≡ tableSize → r .board .rows ≤ mostRows → a ≡ numberInRange (r .line .next) → not a ≡ false
-      → b ≡ holdsUnfinished r → not b ≡ false → s ≡ standing (r .refusal) → s ≡ withinLimits r memory
-  unfolding withinLimits
-  within-stands {a} {b} e h f g i j k =
-      rw (fitting e h, not-not-call a (numberInRange (r .line .next)) f g, not-not-call b (holdsUnfinished r) i j) k
+    module _ (e : length memory ≡ tableSize) (n : h .board .rows ≤ mostRows) where
+      fitting : fits (h .board) memory ≡ true
+      unfolding fits
+      fitting = rw (eq-eqb (length memory) tableSize e, le-leb (h .board .rows) mostRows n)
+
+      pub within-number : {a : Bool} → a ≡ numberInRange (h .line .next) → not a ≡ true → false ≡ lentWithin h held memory
+      unfolding withinLimits
+      within-number {a} f g = lent-as (rw (fitting, not-call a (numberInRange (h .line .next)) f g))
+
+      pub within-held : {a b : Bool} → a ≡ numberInRange (h .line .next) → not a ≡ false → b ≡ holdsUnfinished r → not b ≡ true
+          → false ≡ lentWithin h held memory
+      unfolding withinLimits
+      within-held {a} {b} f g i j =
+          lent-as (rw (fitting, not-not-call a (numberInRange (h .line .next)) f g, not-call b (holdsUnfinished r) i j))
+
+      pub within-stands : {a b s : Bool} → a ≡ numberInRange (h .line .next) → not a ≡ false → b ≡ holdsUnfinished r → not b ≡ false
+          → s ≡ standing (h .refusal) → s ≡ lentWithin h held memory
+      unfolding withinLimits
+      within-stands {a} {b} f g i j k =
+          lent-as (rw (fitting, not-not-call a (numberInRange (h .line .next)) f g, not-not-call b (holdsUnfinished r) i j) k)
+
+-- lent places that keep the limits are as many as a handle has, and the handle keeps its own
+pub lent-within : (h : Head) (held memory : List ℕ) → lentWithin h held memory ≡ true
+    → (length held ≡ heldSize) × (withinLimits (readerWith h held) memory ≡ true)
+unfolding lentWithin
+lent-within h held memory e =
+    let b = and-both (eqb (length held) heldSize) (withinLimits (readerWith h held) memory) e in
+    (eqb-true (length held) heldSize (b .0), b .1)
 
 -- what a handle within its limits has
 pub record Within (r : Reader) (memory : List ℕ) : Type 0 where
@@ -174,10 +196,6 @@ named-number n s h = named-in standingRefusals n (λ d. by (leb n 6) refl d s)
 -- ---- the ways through a step
 
 module _ (r : Reader) (memory piece : List ℕ) {w : Bool} (e : w ≡ withinLimits r memory) where
-  pub step-unfit : (s : Stepped) → not w ≡ true → s ≡ stillOf r (answer.Refused refusal.Unfit) → Stepping r memory piece s memory
-  unfolding stepAll
-  step-unfit s f g = rw (g, not-call w (withinLimits r memory) e f)
-
   module _ (f : not w ≡ false) where
     held : Within r memory
     held = within r memory (not-not-call w (withinLimits r memory) e f)
@@ -227,7 +245,7 @@ module _ (r : Reader) (memory out : List ℕ) {w : Bool} (e : w ≡ withinLimits
 
   pub save-goes : (a : Saved) (after : List ℕ) → not w ≡ false → saving a after ≡ saveOf (headerOf r) memory out → Saves r memory out a after
   unfolding saveAll
-  save-goes a after f g = rw (not-not-call w (withinLimits r memory) e f) g
+  save-goes a after f g = rw (not-not-call w (withinLimits r memory) e f) (ap writtenBy g)
 
 module _ (h : Header) where
   pub line-known : {l : Line} → h .known ≡ true → l ≡ waiting (h .session) (h .next) → l ≡ lineOf h

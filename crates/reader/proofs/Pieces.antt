@@ -16,11 +16,12 @@ use Rattle.packet.specs.declared.Framing.the-variants as front
 use Rattle.packet.proofs.Frame.{short-fits, short-there, bad-there, whole-there}
 use Rattle.packet.proofs.Mend.{lies-short, lies-bad, lies-whole, lies-joined}
 use Rattle.reader.specs.Deliver.{deliver}
-use Rattle.reader.specs.View.{sessionOf, beside, judgedOf, liveOf, seenOf, seen, closedOf, moreOf}
+use Rattle.reader.specs.View.{sessionOf, seenOf, seen}
+use Rattle.reader.specs.Shapes.{beside, judgedOf, liveOf, closedOf}
 use Rattle.reader.specs.declared.Reader.{Reader}
 use Rattle.reader.specs.declared.verdicts.Verdict.{Verdict}
 use Rattle.reader.specs.declared.Stepped.{Stepped}
-use Rattle.reader.proofs.Ways.{judged-step, more-step}
+use Rattle.reader.proofs.Ways.{judged-step, moreOf, more-step}
 
 -- a piece that is no whole packet fits behind nothing
 pub short-room : (bs : List ℕ) {w : Framing} → w ≡ frontOf (frame bs) → w ≡ front.Short → 0 + length bs ≤ heldSize

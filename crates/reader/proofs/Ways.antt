@@ -38,7 +38,8 @@ use Rattle.table.specs.declared.Verdict as tableVerdict
 use Rattle.table.specs.declared.Verdict.the-variants as table
 use Rattle.reader.specs.Refusals.{refusalNumber, named}
 use Rattle.reader.specs.Deliver.{Table, tableOf, Said, said, settledBy, settled, heard, deliver}
-use Rattle.reader.specs.View.{noSession, sessionOf, Seen, beside, outcomeOf, judgedOf, quietOf, loginOf, seenOf, seen, closedOf, Closing, BadClosing, handedOf, moreOf}
+use Rattle.reader.specs.View.{noSession, noText, sessionOf, Seen, seenOf, seen}
+use Rattle.reader.specs.Shapes.{beside, outcomeOf, judgedOf, quietOf, loginOf, closedOf, Closing, BadClosing, handedOf}
 use Rattle.reader.specs.declared.Refusal.{Refusal}
 use Rattle.reader.specs.declared.Refusal.the-variants as refusal
 use Rattle.reader.specs.declared.Event as code
@@ -188,6 +189,15 @@ pub judged-step : (n : ℕ) (v : Verdict) (s : Stepped) (t : List ℕ) (x : stre
 judged-step n v s t x e f g = e t ∙ ap (closedOf n) f ∙ closed-step n x ∙ ap seen (sym g)
 
 -- and one that wants more
+abbrev pub moreOf : Reader → List ℕ → ℕ → ℕ → Stepped
+moreOf r held used taken =
+    record {
+      reader = record { line = r .line; board = r .board; ended = false; refusal = 0; used = used; held = held };
+      taken = taken;
+      answer = answer.More;
+      texts = noText;
+    }
+
 pub more-step : (r : Reader) (held : List ℕ) (used taken : ℕ) (s : Stepped) (t : List ℕ) {y : stream.Stepped (Session Table) (Event Said)}
     → length (take used held) ≡ used → s ≡ moreOf r held used taken
     → y ≡ record { state = live (sessionOf (r .line) (r .board) t) (take used held); taken = taken; answer = stream.More }

@@ -4,11 +4,14 @@ use Prim.Native.Nat.{ℕ}
 use mathlib.Core.Path.{_≡_}
 use mathlib.Core.Bool.{cond}
 use mathlib.Core.List.{List, []}
+use lib.Dec.{eqb}
+use lib.ListN.{length}
 use Rattle.field.specs.Bytes.{part, overlay}
 use Rattle.packet.specs.Stream as stream
 use Rattle.packet.specs.Stream.{State, live, stepOf}
 use Rattle.packet.specs.Session.{Session, Event, soupBinTCP}
 use Rattle.packet.specs.Line.{freshLine}
+use Rattle.packet.specs.Frame.{heldSize}
 use Rattle.table.specs.Board as tables
 use Rattle.table.specs.Board.{Outcome, startOf}
 use Rattle.table.specs.declared.Verdict.{Verdict}
@@ -16,7 +19,7 @@ use Rattle.table.specs.declared.Verdict.the-variants.{Accepted, Refused}
 use Rattle.reader.specs.Refusals.{refusalNumber}
 use Rattle.handle.specs.declared.Head.{Head}
 use Rattle.reader.specs.Deliver.{Table, Said, deliver}
-use Rattle.reader.specs.View.{noText, sessionOf, readerWith, stateOf, liveOf, Seen, seenOf, seen, steppedWith}
+use Rattle.reader.specs.View.{noText, sessionOf, readerWith, stateOf, Seen, seenOf, seen, steppedWith}
 use Rattle.reader.specs.Limits.{withinLimits}
 use Rattle.reader.specs.declared.Refusal.the-variants.{Unfit}
 use Rattle.reader.specs.declared.Reader.{Reader}
@@ -48,6 +51,11 @@ Stepping r memory piece s after = seenOf s after ≡ stepAll r memory piece
 
 -- ---- A STEP ON LENT PLACES OF HELD BYTES
 
+-- 20 for another count of places than a handle has
+unfoldable pub lentAll : Head → List ℕ → List ℕ → List ℕ → Seen
+lentAll h held memory piece =
+    cond (eqb (length held) heldSize) (stepAll (readerWith h held) memory piece) (unfit (readerWith h held) memory)
+
 -- where more is wanted, what was taken stands behind the bytes that are held; any other answer leaves the places
 abbrev pub placesBy : stream.Answer (Event Said) → List ℕ → List ℕ → List ℕ
 placesBy (stream.Event e) held put = held
@@ -69,15 +77,10 @@ lentOf m held memory = record { call = seenOf (steppedWith m held) memory; held 
 abbrev pub lentBy : List ℕ → ℕ → List ℕ → Seen → Lent
 lentBy held used piece x = record { call = x; held = placesAfter held used piece x }
 
--- a live reader within its limits
-abbrev pub LiveStepping : Head → List ℕ → List ℕ → List ℕ → Moved → List ℕ → List ℕ → Type 0
-LiveStepping h held memory piece m held′ memory′ =
-    lentOf m held′ memory′ ≡ lentBy held (h .used) piece (seen (stepOf (soupBinTCP deliver) (liveOf (readerWith h held) memory) piece))
-
 -- THE PROMISE OF A STEP ON LENT PLACES
 abbrev pub LentStepping : Head → List ℕ → List ℕ → List ℕ → Moved → List ℕ → List ℕ → Type 0
 LentStepping h held memory piece m held′ memory′ =
-    lentOf m held′ memory′ ≡ lentBy held (h .used) piece (stepAll (readerWith h held) memory piece)
+    lentOf m held′ memory′ ≡ lentBy held (h .used) piece (lentAll h held memory piece)
 
 -- ---- STARTING
 

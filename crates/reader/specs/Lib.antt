@@ -3,4 +3,5 @@ pub mod Deliver
 pub mod View
 pub mod Limits
 pub mod Calls
+pub mod Shapes
 pub mod Saving

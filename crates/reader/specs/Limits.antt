@@ -1,15 +1,16 @@
 -- The limits of a handle: one that breaks them, or memory of the wrong length, is refusal 20.
 -- Assumes nothing.
-use Prim.Native.Nat.{ℕ, _≤_}
-use mathlib.Core.Path.{_≡_}
+use Prim.Native.Nat.{ℕ}
 use mathlib.Core.Bool.{Bool, true, false, _&&_}
 use mathlib.Core.List.{List}
-use lib.Dec.{leb}
-use Rattle.field.specs.Limits.{highestNumber, numberInRange}
+use lib.Dec.{eqb, leb}
+use lib.ListN.{length}
+use Rattle.field.specs.Limits.{numberInRange}
 use Rattle.packet.specs.Frame.{Framed, short, badLength, packet, frame, heldSize}
 use Rattle.table.specs.Board.{fits}
+use Rattle.handle.specs.declared.Head.{Head}
 use Rattle.reader.specs.Refusals.{standing}
-use Rattle.reader.specs.View.{heldOf}
+use Rattle.reader.specs.View.{heldOf, readerWith}
 use Rattle.reader.specs.declared.Reader.{Reader}
 
 abbrev pub isShort : Framed → Bool
@@ -30,8 +31,6 @@ unfoldable pub withinLimits : Reader → List ℕ → Bool
 withinLimits r memory =
     fits (r .board) memory && (numberInRange (r .line .next) && (holdsUnfinished r && standing (r .refusal)))
 
--- what the step of a handle within its limits is given
-pub record Fit (r : Reader) : Type 0 where
-  pub most : r .line .next ≤ highestNumber
-  pub start : r .used ≤ heldSize
-  pub short : frame (heldOf r) ≡ short
+-- where the places of held bytes are lent: as many as a handle has, and the limits of the handle
+unfoldable pub lentWithin : Head → List ℕ → List ℕ → Bool
+lentWithin h held memory = eqb (length held) heldSize && withinLimits (readerWith h held) memory

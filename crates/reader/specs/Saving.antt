@@ -8,15 +8,19 @@ use Rattle.packet.specs.Stream.{State, live}
 use Rattle.packet.specs.Session.{Session}
 use Rattle.packet.specs.Line.{freshLine, waiting}
 use Rattle.packet.specs.declared.Line.{Line}
-use Rattle.image.specs.Save.{Saving, saving, unsaved, saveOf}
+use Rattle.image.specs.Save as images
+use Rattle.image.specs.Save.{Saving, saveOf}
 use Rattle.image.specs.Restore.{Restoring, restoreOf}
 use Rattle.image.specs.declared.Header.{Header}
-use Rattle.image.specs.declared.Refusal.the-variants.{Misfit}
 use Rattle.image.specs.declared.Saved.{Saved}
+use Rattle.image.specs.declared.Saved.the-variants.{Whole, Unsaved}
 use Rattle.image.specs.declared.Verdict.{Verdict}
+use Rattle.image.specs.declared.Verdict.the-variants.{Accepted, Refused}
+use Rattle.reader.specs.Refusals.{refusalNumber}
 use Rattle.reader.specs.Deliver.{Table}
 use Rattle.reader.specs.View.{sessionOf, stateOf}
 use Rattle.reader.specs.Limits.{withinLimits}
+use Rattle.reader.specs.declared.Refusal.the-variants.{Unfit}
 use Rattle.reader.specs.declared.Reader.{Reader}
 use Rattle.reader.specs.declared.Restored.{Restored}
 
@@ -26,13 +30,29 @@ use Rattle.reader.specs.declared.Restored.{Restored}
 abbrev pub headerOf : Reader → Header
 headerOf r = record { session = r .line .session; known = r .line .known; next = r .line .next; board = r .board }
 
+-- the number of the refusal, 0 for none; the count of bytes written; and the output as it is left
+pub record Written : Type 0 where
+  pub refusal : ℕ
+  pub count : ℕ
+  pub out : List ℕ
+
+abbrev pub writtenOf : Saved → List ℕ → Written
+writtenOf (Whole n) out = record { refusal = 0; count = n; out = out }
+writtenOf (Unsaved r) out = record { refusal = images.refusalNumber r; count = 0; out = out }
+
+abbrev pub writtenBy : Saving → Written
+writtenBy s = writtenOf (s .answer) (s .out)
+
 -- 20 comes first, for every limit of a handle
-unfoldable pub saveAll : Reader → List ℕ → List ℕ → Saving
-saveAll r memory out = cond (withinLimits r memory) (saveOf (headerOf r) memory out) (unsaved Misfit out)
+unfoldable pub saveAll : Reader → List ℕ → List ℕ → Written
+saveAll r memory out =
+    cond (withinLimits r memory)
+    (writtenBy (saveOf (headerOf r) memory out))
+    (record { refusal = refusalNumber Unfit; count = 0; out = out })
 
 -- THE PROMISE OF SAVING: table memory and an output were lent, and an answer came and the output was left so
 abbrev pub Saves : Reader → List ℕ → List ℕ → Saved → List ℕ → Type 0
-Saves r memory out a after = saving a after ≡ saveAll r memory out
+Saves r memory out a after = writtenOf a after ≡ saveAll r memory out
 
 -- ---- RESTORING
 
@@ -44,19 +64,24 @@ lineOf h = cond (h .known) (waiting (h .session) (h .next)) freshLine
 abbrev pub restoredSession : Restoring → Session Table
 restoredSession o = sessionOf (lineOf (o .answer .header)) (o .answer .header .board) (o .memory)
 
--- the state, how many bytes are held, and the verdict
+-- the state, how many bytes are held, and the number of the refusal, 0 for none
 pub record Came : Type 0 where
   pub state : State (Session Table)
   pub used : ℕ
-  pub verdict : Verdict
+  pub refusal : ℕ
+
+abbrev pub restoreNumber : Verdict → ℕ
+restoreNumber Accepted = 0
+restoreNumber (Refused r) = images.refusalNumber r
 
 abbrev pub cameOf : Restored → List ℕ → Came
-cameOf r memory = record { state = stateOf (r .reader) memory; used = r .reader .used; verdict = r .verdict }
+cameOf r memory =
+    record { state = stateOf (r .reader) memory; used = r .reader .used; refusal = restoreNumber (r .verdict) }
 
 unfoldable pub restoreAll : List ℕ → List ℕ → Came
 restoreAll image memory =
     let o = restoreOf image memory in
-    record { state = live (restoredSession o) []; used = 0; verdict = o .answer .verdict }
+    record { state = live (restoredSession o) []; used = 0; refusal = restoreNumber (o .answer .verdict) }
 
 -- THE PROMISE OF RESTORING
 abbrev pub Restores : List ℕ → List ℕ → Restored → List ℕ → Type 0

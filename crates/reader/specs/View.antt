@@ -1,20 +1,16 @@
 -- The code's values as those of the definitions.
 -- Assumes nothing.
-use Prim.Native.Nat.{ℕ, _-_}
-use mathlib.Core.Path.{_≡_}
+use Prim.Native.Nat.{ℕ}
 use mathlib.Core.Bool.{Bool, false, cond}
 use mathlib.Core.List.{List}
 use lib.Dec.{eqb}
 use lib.ListN.{length, take, replicate}
 use Rattle.message.specs.Letters.{noTexts}
 use Rattle.packet.specs.Stream as stream
-use Rattle.packet.specs.Stream.{State, live, ended, refused, accept, finish, refuse, stepJudged}
+use Rattle.packet.specs.Stream.{State, live, ended, refused}
 use Rattle.packet.specs.Session as packets
 use Rattle.packet.specs.Session.{Session, Event}
 use Rattle.packet.specs.Frame.{heldSize}
-use Rattle.packet.specs.Line.{loggedIn}
-use Rattle.packet.specs.Refusals.{faultNumber}
-use Rattle.packet.specs.declared.Fault.the-variants.{BadLength}
 use Rattle.packet.specs.declared.Line.{Line}
 use Rattle.table.specs.declared.Board.{Board}
 use Rattle.handle.specs.declared.Head.{Head}
@@ -23,9 +19,6 @@ use Rattle.reader.specs.Refusals.{refusalNumber}
 use Rattle.reader.specs.declared.Texts.{Texts}
 use Rattle.reader.specs.declared.Event as code
 use Rattle.reader.specs.declared.Event.the-variants as event
-use Rattle.reader.specs.declared.verdicts.Outcome.{Outcome}
-use Rattle.reader.specs.declared.verdicts.Outcome.the-variants.{Accept, Finish, Refuse}
-use Rattle.reader.specs.declared.verdicts.Verdict.{Verdict}
 use Rattle.reader.specs.declared.Reader.{Reader}
 use Rattle.reader.specs.declared.StepAnswer.{StepAnswer}
 use Rattle.reader.specs.declared.StepAnswer.the-variants as answer
@@ -63,42 +56,6 @@ eventOf texts event.Heartbeat = packets.heartbeat
 eventOf texts event.End = packets.end
 eventOf texts event.Skipped = packets.skipped
 
--- ---- a packet that is judged: what is found, and the texts beside
-
-pub record Judged : Type 0 where
-  pub verdict : stream.Verdict (Session Table) (Event Said)
-  pub texts : Texts
-
-abbrev pub verdictTexts : stream.Verdict (Session Table) (Event Said) → Texts
-verdictTexts (accept e s) = textsOf e
-verdictTexts (finish e s) = textsOf e
-verdictTexts (refuse n s) = noText
-
-abbrev pub beside : stream.Verdict (Session Table) (Event Said) → Judged
-beside v = record { verdict = v; texts = verdictTexts v }
-
-abbrev pub outcomeOf : Texts → Session Table → Outcome → stream.Verdict (Session Table) (Event Said)
-outcomeOf texts s (Accept e) = accept (eventOf texts e) s
-outcomeOf texts s (Finish e) = finish (eventOf texts e) s
-outcomeOf texts s (Refuse r) = refuse (refusalNumber r) s
-
-abbrev pub judgedOf : Verdict → List ℕ → Judged
-judgedOf v memory =
-    record { verdict = outcomeOf (v .texts) (sessionOf (v .line) (v .board) memory) (v .outcome); texts = v .texts }
-
--- the code's verdict that has no texts and leaves line and board, and that of a login
-abbrev pub quietOf : Line → Board → Outcome → Verdict
-quietOf line board outcome = record { line = line; board = board; outcome = outcome; texts = noText }
-
-abbrev pub loginOf : Line → Board → ℕ → List ℕ → Verdict
-loginOf line board n session =
-    record {
-      line = loggedIn line session;
-      board = board;
-      outcome = Accept (event.Login n);
-      texts = record { session = session; message = noTexts };
-    }
-
 -- ---- a reader
 
 -- its head, and the places of held bytes beside it
@@ -120,9 +77,10 @@ heldOf r = take (r .used) (r .held)
 abbrev pub stateOf : Reader → List ℕ → State (Session Table)
 stateOf r memory = stateAt (r .refusal) (r .ended) (sessionOf (r .line) (r .board) memory) (heldOf r)
 
--- one that has neither ended nor refused
-abbrev pub liveOf : Reader → List ℕ → State (Session Table)
-liveOf r memory = live (sessionOf (r .line) (r .board) memory) (heldOf r)
+-- one that holds nothing and has neither ended nor refused
+abbrev pub readyOf : Line → Board → Reader
+readyOf line board =
+    record { line = line; board = board; ended = false; refusal = 0; used = 0; held = replicate heldSize 0 }
 
 -- ---- a call: the step of the definitions, how many bytes are held, and the texts beside
 
@@ -144,11 +102,26 @@ steppedOf s memory =
 abbrev pub seenOf : Stepped → List ℕ → Seen
 seenOf s memory = record { step = steppedOf s memory; used = s .reader .used; texts = s .texts }
 
--- what a step of the definitions asks of the code's answer
+-- a call that takes nothing and leaves the handle
+abbrev pub stillOf : Reader → StepAnswer → Stepped
+stillOf r a = record { reader = r; taken = 0; answer = a; texts = noText }
+
+-- ---- what a state has, whichever it is
+
+abbrev pub sessionIn : State (Session Table) → Session Table
+sessionIn (live s held) = s
+sessionIn (ended s held) = s
+sessionIn (refused s held e n) = s
+
+abbrev pub memoryIn : State (Session Table) → List ℕ
+memoryIn st = sessionIn st .about .memory
+
 abbrev pub heldIn : State (Session Table) → List ℕ
 heldIn (live s held) = held
 heldIn (ended s held) = held
 heldIn (refused s held e n) = held
+
+-- ---- what a step of the definitions asks of the code's answer
 
 abbrev pub answerTexts : stream.Answer (Event Said) → Texts
 answerTexts (stream.Event e) = textsOf e
@@ -159,73 +132,8 @@ answerTexts (stream.Refused n) = noText
 abbrev pub seen : stream.Stepped (Session Table) (Event Said) → Seen
 seen s = record { step = s; used = length (heldIn (s .state)); texts = answerTexts (s .answer) }
 
--- a call that ends with a packet that is judged, and takes so many bytes
-abbrev pub closedOf : ℕ → Judged → Seen
-closedOf taken j = record { step = stepJudged taken (j .verdict); used = 0; texts = j .texts }
-
--- the code's answer where more is wanted
-abbrev pub moreOf : Reader → List ℕ → ℕ → ℕ → Stepped
-moreOf r held used taken =
-    record {
-      reader = record { line = r .line; board = r .board; ended = false; refusal = 0; used = used; held = held };
-      taken = taken;
-      answer = answer.More;
-      texts = noText;
-    }
-
--- a call that takes nothing and leaves the handle
-abbrev pub stillOf : Reader → StepAnswer → Stepped
-stillOf r a = record { reader = r; taken = 0; answer = a; texts = noText }
-
 -- ---- a call on lent places of held bytes
 
 -- as a call by value, that hands back these places
 abbrev pub steppedWith : Moved → List ℕ → Stepped
 steppedWith m held = record { reader = readerWith (m .head) held; taken = m .taken; answer = m .answer; texts = m .texts }
-
--- a call that ends with a packet that was judged; nothing is held, so that the places do not count
-abbrev pub Closing : Verdict → ℕ → Moved → Type 0
-Closing v taken m = (held memory : List ℕ) → seenOf (steppedWith m held) memory ≡ closedOf taken (judgedOf v memory)
-
--- one that ends with a length that no packet has
-abbrev pub BadClosing : Head → ℕ → Moved → Type 0
-BadClosing h taken m =
-    (held memory : List ℕ)
-    → seenOf (steppedWith m held) memory ≡ seen (stepJudged taken (refuse (faultNumber BadLength) (sessionOf (h .line) (h .board) memory)))
-
--- the code's answer to a packet that was judged: nothing is held
-abbrev pub handedOf : Verdict → ℕ → Bool → ℕ → StepAnswer → Moved
-handedOf v taken end refusal a =
-    record {
-      head = record { line = v .line; board = v .board; ended = end; refusal = refusal; used = 0 };
-      taken = taken;
-      answer = a;
-      texts = v .texts;
-    }
-
--- and where more is wanted
-abbrev pub moreMoved : Head → ℕ → ℕ → Moved
-moreMoved h used taken =
-    record {
-      head = record { line = h .line; board = h .board; ended = false; refusal = 0; used = used };
-      taken = taken;
-      answer = answer.More;
-      texts = noText;
-    }
-
--- a call that takes nothing and leaves the handle
-abbrev pub stillMoved : Head → StepAnswer → Moved
-stillMoved h a = record { head = h; taken = 0; answer = a; texts = noText }
-
--- the same handle, with nothing held
-abbrev pub unheldOf : Head → Head
-unheldOf h = record { line = h .line; board = h .board; ended = h .ended; refusal = h .refusal; used = 0 }
-
--- the same answer, with so many bytes fewer taken
-abbrev pub fewerMoved : ℕ → Moved → Moved
-fewerMoved n m = record { head = m .head; taken = m .taken - n; answer = m .answer; texts = m .texts }
-
--- a handle that holds nothing and has neither ended nor refused
-abbrev pub readyOf : Line → Board → Reader
-readyOf line board =
-    record { line = line; board = board; ended = false; refusal = 0; used = 0; held = replicate heldSize 0 }

@@ -12,9 +12,10 @@ ghost use mathlib.Core.Path.{_≡_};
 ghost use Prim.Native.Nat.{_≤_};
 ghost use lib.ListN.{length};
 ghost use Rattle.packet.specs.Frame.{heldSize};
-ghost use Rattle.reader.specs.View.{noText, readerWith, headPart, handedOf, moreMoved, stillMoved, unheldOf, fewerMoved, readyOf, Closing, BadClosing};
-ghost use Rattle.reader.specs.Limits.{holdsUnfinished, withinLimits, Fit};
-ghost use Rattle.reader.specs.Calls.{LiveStepping, LentStepping, Stepping, Starting};
+ghost use Rattle.reader.specs.View.{noText, readerWith, headPart, readyOf};
+ghost use Rattle.reader.specs.Limits.{holdsUnfinished, lentWithin};
+ghost use Rattle.reader.specs.Calls.{LentStepping, Stepping, Starting};
+ghost use Rattle.reader.specs.Shapes.{Fit, LiveStepping, Closing, BadClosing, handedOf, moreMoved, stillMoved, unheldOf, fewerMoved};
 ghost use Rattle.reader.specs.Saving.{lineOf, Saves, Restores};
 
 pub mod refusals;
@@ -273,11 +274,13 @@ fn holds_unfinished(head: Head, held: &[u8]) -> bool
     }
 }
 
-// Does the handle keep its limits, with that table memory?
+// Does the handle keep its limits, with these places of held bytes and that table memory?
 pub fn within_limits(head: Head, held: &[u8], table: &[u8]) -> bool
-    requires { ⌜ length (now held) ≡ heldSize ⌝ }
-    ensures { λ r. ⌜ r ≡ withinLimits (readerWith head (now (held .entry))) (now (table .entry)) ⌝ }
+    ensures { λ r. ⌜ r ≡ lentWithin head (now (held .entry)) (now (table .entry)) ⌝ }
 {
+    if held.len() != HELD_SIZE {
+        return false;
+    }
     if table.len() != table::TABLE_SIZE {
         return false;
     }
@@ -295,7 +298,6 @@ pub fn within_limits(head: Head, held: &[u8], table: &[u8]) -> bool
 
 // Takes at most one packet of the piece. The places of held bytes are lent: those that more is wanted for are put there.
 pub fn step(head: Head, held: &mut [u8], piece: &[u8], table: &mut [u8]) -> Moved
-    requires { ⌜ length (now held) ≡ heldSize ⌝ }
     ensures { λ m. ⌜ LentStepping head (now (held .entry)) (now (table .entry)) (now (piece .entry)) m (now (held .exit)) (now (table .exit)) ⌝ }
 {
     if !within_limits(head, held, table) {

@@ -19,7 +19,8 @@ ghost use Rattle.field.specs.Limits.{highestNumber};
 ghost use Rattle.packet.specs.Session.{delivered, soupBinTCP};
 ghost use Rattle.table.specs.Board.{outcome};
 ghost use Rattle.reader.specs.Deliver.{tableOf, said, settled, deliver};
-ghost use Rattle.reader.specs.View.{sessionOf, beside, judgedOf, quietOf, loginOf};
+ghost use Rattle.reader.specs.View.{sessionOf};
+ghost use Rattle.reader.specs.Shapes.{beside, judgedOf, quietOf, loginOf};
 
 // Accepted; the same, and the session's last; or refused.
 pub enum Outcome {

@@ -2,7 +2,7 @@
 -- Assumes nothing.
 use borrow.Author.Needs.{needs}
 use native.Mathlib.Omega.{arith}
-use Rattle.abi.proofs.Ways.{saved-fits, saved-whole}
+use Rattle.abi.proofs.Ways.{saved-fits, saved-whole, saved-not}
 use Rattle.abi.proofs.saved_number.Statement.{statement}
 use Rattle.abi.proofs.saved_number.Tie as tie
 
@@ -21,7 +21,10 @@ mul-result c =
 returns : tie.Need-returns
 returns c = search saved-whole
 
+returns-2 : tie.Need-returns-2
+returns-2 c = search saved-not
+
 pub saved-number-spec : {M : Type 1} → statement M
 saved-number-spec =
     tie.close
-    (tie.spec (λ c. search needs) cast-result mul-result (λ c. search needs) (λ c κs. search needs) (λ c. search needs) returns (λ c. search needs))
+    (tie.spec (λ c. search needs) cast-result mul-result (λ c. search needs) (λ c κs. search needs) (λ c. search needs) returns returns-2)

@@ -1,8 +1,7 @@
 -- `reader::step` meets its contract.
 -- Assumes nothing.
 use borrow.Author.Needs.{needs}
-use Rattle.reader.proofs.Limits.{fit}
-use Rattle.reader.proofs.Lent.{lent-unfit, lent-refused, lent-ended, lent-live}
+use Rattle.reader.proofs.Lent.{lent-unfit, lent-places, lent-fit, lent-refused, lent-ended, lent-live}
 use Rattle.reader.proofs.step.Statement.{statement}
 use Rattle.reader.proofs.step.Tie as tie
 
@@ -10,27 +9,19 @@ returns : tie.Need-returns
 returns c = search lent-unfit
 
 returns-2 : tie.Need-returns-2
-returns-2 c =
-    let start = c .before .before .before .before .before .before .before .before .before .before in
-    let l = start .pre in search lent-refused
+returns-2 c = search lent-refused
 
 returns-3 : tie.Need-returns-3
-returns-3 c =
-    let start = c .before .before .before .before .before .before .before .before .before .before in
-    let l = start .pre in search lent-ended
+returns-3 c = search lent-ended
 
 straight-requires : tie.Need-straight-requires
-straight-requires c κs =
-    let start = c .before .before .before .before .before .before .before .before .before .before .before .before .before in
-    let l = start .pre in (search fit, (search needs, l))
+straight-requires c κs = (search lent-fit, (search needs, search lent-places))
 
 returns-4 : tie.Need-returns-4
 returns-4 c = search lent-live
 
 mended-requires : tie.Need-mended-requires
-mended-requires c κs =
-    let start = c .before .before .before .before .before .before .before .before .before .before .before .before .before in
-    let l = start .pre in (search fit, l)
+mended-requires c κs = (search lent-fit, search lent-places)
 
 returns-5 : tie.Need-returns-5
 returns-5 c = search lent-live

@@ -1,26 +1,29 @@
 -- `reader::within_limits` meets its contract.
 -- Assumes nothing.
 use borrow.Author.Needs.{needs}
-use Rattle.reader.proofs.Limits.{within-size, within-rows, within-number, within-held, within-stands}
+use Rattle.reader.proofs.Limits.{within-places, within-size, within-rows, within-number, within-held, within-stands}
 use Rattle.reader.proofs.within_limits.Statement.{statement}
 use Rattle.reader.proofs.within_limits.Tie as tie
 
 returns : tie.Need-returns
-returns c = search within-size
+returns c = search within-places
 
 returns-2 : tie.Need-returns-2
-returns-2 c = search within-rows
+returns-2 c = search within-size
 
 returns-3 : tie.Need-returns-3
-returns-3 c = search within-number
+returns-3 c = search within-rows
 
 returns-4 : tie.Need-returns-4
-returns-4 c = search within-held
+returns-4 c = search within-number
 
 returns-5 : tie.Need-returns-5
-returns-5 c = search within-stands
+returns-5 c = search within-held
+
+returns-6 : tie.Need-returns-6
+returns-6 c = search within-stands
 
 pub within-limits-spec : {M : Type 1} → statement M
 within-limits-spec =
     tie.close
-    (tie.spec returns returns-2 (λ c κs. search needs) returns-3 (λ c κs. search needs) returns-4 (λ c κs. search needs) returns-5)
+    (tie.spec returns returns-2 returns-3 (λ c κs. search needs) returns-4 (λ c κs. search needs) returns-5 (λ c κs. search needs) returns-6)
