@@ -57,11 +57,10 @@ use Rattle.image.specs.declared.Saved.the-variants as saved
 use Rattle.table.specs.Memory.{mostRows, tableSize}
 use Rattle.table.specs.Board.{fits}
 use Rattle.message.specs.declared.Message.{Message}
-use Rattle.listing.specs.Lines.{lineOf, lineWith}
+use Rattle.listing.specs.Lines.{endingOf, lineOf, lineWith}
 use Rattle.listing.specs.declared.Text.{Text}
 use Rattle.listing.specs.declared.Ending.{Ending}
-use Rattle.listing.specs.declared.Ending.the-variants as ending
-use Rattle.abi.specs.Host.{readerIn, handleBytes, noHeld, headIn, left, unheld, startedAs, startHost, StartsOn, restoredAs, restoreHost, RestoresOn, loginBytes, toldEvent, told, Gone, goneTo, movedBy, movedOf, Follows, hostStepped, steppedAs, stepHost, savedNumber, savedAs, SavedFits, saveHost, endingOf, lineTo, textOf, lineHost}
+use Rattle.abi.specs.Host.{readerIn, handleBytes, noHeld, headIn, left, unheld, startedAs, startHost, StartsOn, restoredAs, restoreHost, RestoresOn, loginBytes, toldEvent, told, Gone, goneTo, movedBy, movedOf, Follows, hostStepped, steppedAs, stepHost, savedNumber, savedAs, SavedFits, saveHost, lineTo, textOf, lineHost}
 use Rattle.abi.proofs.Heads.{head-in, memory-in, put-over}
 use Rattle.abi.proofs.Rounds.{reader-back}
 
@@ -252,7 +251,7 @@ module _ (handle table : List ℕ) (k : ℕ) (out : List ℕ) {b : Bool} (e : b 
     unfolding lineHost
     line-unfit j = rw (not-not-call b (isHandle handle) e f, not-call w (withinLimits (readerIn handle) table) limits j)
 
-    pub line-goes : {n : ℕ} (x : Ending) (t : Text) (after : List ℕ) → not w ≡ false → x ≡ endingOf h → t ≡ lineWith (lineOf k (h .line .next) (h .board .rows) table x)
+    pub line-goes : {n : ℕ} (x : Ending) (t : Text) (after : List ℕ) → not w ≡ false → x ≡ endingOf (h .refusal) (h .ended) → t ≡ lineWith (lineOf k (h .line .next) (h .board .rows) table x)
         → answered n after ≡ lineTo (textOf t) out → answered n after ≡ lineHost handle table k out
     unfolding lineHost
     line-goes x t after j l m o =
@@ -260,19 +259,7 @@ module _ (handle table : List ℕ) (k : ℕ) (out : List ℕ) {b : Bool} (e : b 
         (o ∙ ap (λ (y : Text). lineTo (textOf y) out) m
         ∙ ap (λ (ys : List ℕ). lineTo ys out) (text-line (lineOf k (h .line .next) (h .board .rows) table x))
         ∙ ap (λ (y : Ending). lineTo (lineOf k (h .line .next) (h .board .rows) table y) out) l
-        ∙ ap (λ (y : Head). lineTo (lineOf k (y .line .next) (y .board .rows) table (endingOf y)) out) g)
-
--- ---- how a listing ends
-
-module _ (h : Head) where
-  pub ends-refused : (h .refusal ≡ 0 → ⊥) → ending.Refused (h .refusal) ≡ endingOf h
-  ends-refused d = rw (ne-eqb (h .refusal) 0 d)
-
-  pub ends-ended : h .refusal ≡ 0 → h .ended ≡ true → ending.Ended ≡ endingOf h
-  ends-ended e f = rw (eq-eqb (h .refusal) 0 e, f)
-
-  pub ends-open : h .refusal ≡ 0 → h .ended ≡ false → ending.RanOut ≡ endingOf h
-  ends-open e f = rw (eq-eqb (h .refusal) 0 e, f)
+        ∙ ap (λ (y : Head). lineTo (lineOf k (y .line .next) (y .board .rows) table (endingOf (y .refusal) (y .ended))) out) g)
 
 -- ---- a handle of the right length
 

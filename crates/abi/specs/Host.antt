@@ -17,9 +17,7 @@ use Rattle.handle.specs.declared.Head.{Head}
 use Rattle.block.specs.Block.{blockSize}
 use Rattle.image.specs.Shape.{mostBlocks}
 use Rattle.image.specs.declared.Saved.{Saved}
-use Rattle.listing.specs.Lines.{lineOf}
-use Rattle.listing.specs.declared.Ending.{Ending}
-use Rattle.listing.specs.declared.Ending.the-variants as ending
+use Rattle.listing.specs.Lines.{endingOf, lineOf}
 use Rattle.listing.specs.declared.Text.{Text}
 use Rattle.record.specs.Places.{recordSize}
 use Rattle.record.specs.Record.{Answered, answered, recordBytes}
@@ -196,10 +194,6 @@ SavedFits s = writtenOf s [] .count ≤ mostBlocks * blockSize
 
 -- ---- A LINE OF THE LISTING
 
--- a standing refusal, an end, or neither
-abbrev pub endingOf : Head → Ending
-endingOf h = cond (eqb (h .refusal) 0) (cond (h .ended) ending.Ended ending.RanOut) (ending.Refused (h .refusal))
-
 -- 25 for a line that has no room
 unfoldable pub lineTo : List ℕ → List ℕ → Answered
 lineTo line out = cond (leb (length line) (length out)) (answered (length line * 256) (overlay out 0 line)) (answered 25 out)
@@ -212,5 +206,5 @@ textOf t = take (t .size) (t .text)
 unfoldable pub lineHost : List ℕ → List ℕ → ℕ → List ℕ → Answered
 lineHost handle table k out =
     cond (isHandle handle && withinLimits (readerIn handle) table)
-    (lineTo (lineOf k (headOf handle .line .next) (headOf handle .board .rows) table (endingOf (headOf handle))) out)
+    (lineTo (lineOf k (headOf handle .line .next) (headOf handle .board .rows) table (endingOf (headOf handle .refusal) (headOf handle .ended))) out)
     (answered 20 out)

@@ -3,7 +3,6 @@ use handle::HANDLE_SIZE;
 use handle::HEAD_SIZE;
 use handle::Head;
 use image::Saved;
-use listing::Ending;
 use listing::Text;
 use packet::HELD_SIZE;
 use reader::Moved;
@@ -19,7 +18,7 @@ ghost use Rattle.handle.specs.Handle.{handleSize};
 ghost use Rattle.record.specs.Places.{recordSize};
 ghost use Rattle.record.specs.Record.{answered, readAnswer, writeAnswer};
 ghost use Rattle.reader.specs.Saving.{writtenOf, restoreNumber};
-ghost use Rattle.abi.specs.Host.{readerIn, handleBytes, noHeld, movedOf, movedBy, Follows, GoesOn, HostSteps, HostStarts, StartsOn, HostRestores, RestoresOn, savedNumber, SavedFits, HostSaves, endingOf, lineTo, textOf, lineHost};
+ghost use Rattle.abi.specs.Host.{readerIn, handleBytes, noHeld, movedOf, movedBy, Follows, GoesOn, HostSteps, HostStarts, StartsOn, HostRestores, RestoresOn, savedNumber, SavedFits, HostSaves, lineTo, textOf, lineHost};
 
 mod told;
 
@@ -184,19 +183,6 @@ pub extern "C" fn nelqubat_write(memory: &[u8], out: &mut [u8]) -> u32
     record::write(memory, out)
 }
 
-// How a listing of the handle ends.
-fn ending(h: Head) -> Ending
-    ensures { λ r. ⌜ r ≡ endingOf h ⌝ }
-{
-    if h.refusal != 0 {
-        return Ending::Refused(h.refusal);
-    }
-    if h.ended {
-        return Ending::Ended;
-    }
-    Ending::RanOut
-}
-
 // A line of text to the front of `out`, or 25.
 fn put_line(text: Text, out: &mut [u8]) -> u32
     requires { ⌜ text .size ≤ 80 ⌝ }
@@ -223,6 +209,7 @@ pub extern "C" fn nelqubat_line(handle: &[u8], table: &[u8], k: usize, out: &mut
     if !reader::within_limits(head, &handle[HEAD_SIZE..HANDLE_SIZE], table) {
         return 20;
     }
-    let text = listing::line(k, head.line.next, head.board.rows, table, ending(head));
+    let ending = listing::ending_for(head.refusal, head.ended);
+    let text = listing::line(k, head.line.next, head.board.rows, table, ending);
     put_line(text, out)
 }

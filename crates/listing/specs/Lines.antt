@@ -59,6 +59,11 @@ sideText side r = 32 ∷ cond (hasSeen side (sidesOf r)) (dollars (priceOf side 
 unfoldable pub rowLine : List ℕ → List ℕ
 rowLine r = chars (idOf r) ++ (stateText r ++ (sideText Bid r ++ (sideText Ask r ++ lineEnd)))
 
+-- ---- how a listing ends: with a standing refusal, with an end, or with neither
+
+abbrev pub endingOf : ℕ → Bool → Ending
+endingOf refusal end = cond (eqb refusal 0) (cond end Ended RanOut) (Refused refusal)
+
 -- ---- the last line: input ran out, even inside a packet; Z or J; a refusal
 
 unfoldable pub lastLine : Ending → List ℕ

@@ -11,7 +11,7 @@ ghost use Rattle.field.specs.Bytes.{overlay};
 ghost use Rattle.field.specs.Decimal.{chars};
 ghost use Rattle.row.specs.Fields.{rowSize};
 ghost use Rattle.table.specs.Memory.{mostRows, tableSize};
-ghost use Rattle.listing.specs.Lines.{lineEnd, nextLine, dash, dollars, stateText, sideText, rowLine, lastLine, lineIn, lineOf, lineWith};
+ghost use Rattle.listing.specs.Lines.{endingOf, lineEnd, nextLine, dash, dollars, stateText, sideText, rowLine, lastLine, lineIn, lineOf, lineWith};
 
 // No line is longer.
 pub const LINE_SIZE: usize = 80;
@@ -27,6 +27,19 @@ pub enum Ending {
     RanOut,
     Ended,
     Refused(u8),
+}
+
+// How a listing ends for a reader: the number of the refusal that stands, 0 for none, and whether the session has ended.
+pub fn ending_for(refusal: u8, ended: bool) -> Ending
+    ensures { λ r. ⌜ r ≡ endingOf refusal ended ⌝ }
+{
+    if refusal != 0 {
+        return Ending::Refused(refusal);
+    }
+    if ended {
+        return Ending::Ended;
+    }
+    Ending::RanOut
 }
 
 // Each of the functions below puts its text from `at` on, and answers where it ends.

@@ -1,4 +1,4 @@
-// Lists the table of a session that comes on standard input; saves it, or restores it first, where the arguments ask for it.
+// Lists the table of a session; saves it, or restores it first, where the arguments ask for it.
 use arguments::Wanted;
 use block::BLOCK_SIZE;
 use files::Loaded;
@@ -6,14 +6,18 @@ use image::MOST_BLOCKS;
 use image::Saved;
 use image::Verdict;
 use libc::STDERR_FILENO;
+use libc::STDIN_FILENO;
 use libc::STDOUT_FILENO;
 use listing::Ending;
 use reader::Reader;
+use session::Heard;
 use table::MOST_ROWS;
 use table::TABLE_SIZE;
 
 mod arguments;
 mod files;
+mod links;
+mod progress;
 mod session;
 
 // No listing has more lines, and no image more bytes.
@@ -24,17 +28,29 @@ const MOST_IMAGE: usize = MOST_BLOCKS * BLOCK_SIZE;
 // Room for a block more, so that a longer file is seen to be too long.
 const LONGER_IMAGE: usize = MOST_IMAGE + BLOCK_SIZE;
 
+// What a program that can answer one would end with: all went well, a file failed, wrong arguments, refused.
+const FINE: u8 = 0;
+
+const FAILED: u8 = 1;
+
+const WRONG: u8 = 2;
+
+const REFUSED: u8 = 3;
+
+// Where it is said, if it is asked for.
+const STATUS_FILENO: i32 = 3;
+
 fn print_help() {
     io::write_all(
         STDOUT_FILENO,
-        b"usage: toplist [--from FILE] [--save FILE] < SESSION\n\nLists the table of a session.\n\n  --from FILE  restore the table from FILE first; the session then begins with the login that it waits for\n  --save FILE  save the table to FILE at the end, whole or not at all\n  --help       print this\n",
+        b"usage: toplist [--from FILE] [--save FILE] [--status] [SESSION]\n\nLists the table of a session, which is read from the file SESSION, or from standard input.\n\n  --from FILE  restore the table from FILE first; the session then begins with the login that it waits for\n  --save FILE  save the table to FILE at the end, whole or not at all\n  --status     write a digit to descriptor 3 at the end: 0 for ok and end, 1 where a file could not be read, saved\n               or written, 2 for wrong arguments, 3 where something was refused\n  --help       print this\n",
     );
 }
 
 fn print_usage() {
     io::write_all(
         STDERR_FILENO,
-        b"usage: toplist [--from FILE] [--save FILE] < SESSION (toplist --help says more)\n",
+        b"usage: toplist [--from FILE] [--save FILE] [--status] [SESSION] (toplist --help says more)\n",
     );
 }
 
@@ -54,65 +70,77 @@ fn print_not(what: &[u8], why: &[u8], number: u8) {
     io::write_all(STDERR_FILENO, b"\n");
 }
 
-// One line of the listing; is there another?
+// One line of the listing; was it written?
 fn print_line(k: usize, reader: Reader, table: &[u8], ending: Ending) -> bool {
     let line = reader.line;
     let board = reader.board;
     let shown = listing::line(k, line.next, board.rows, table, ending);
     let text = shown.text;
     let n = shown.size;
-    if n == 0 {
-        return false;
-    }
     io::write_all(STDOUT_FILENO, &text[..n])
 }
 
-fn print_listing(reader: Reader, table: &[u8], ending: Ending) {
+// A line for each row, and one before and after them; were all of them written?
+fn print_listing(reader: Reader, table: &[u8], ending: Ending) -> bool {
+    let last = reader.board.rows;
     let mut k = 0;
-    while k < MOST_LINES && print_line(k, reader, table, ending) {
+    while k < MOST_LINES {
+        if !print_line(k, reader, table, ending) {
+            return false;
+        }
+        if k > last {
+            return true;
+        }
         k += 1;
     }
+    true
 }
 
-fn save(reader: Reader, table: &[u8], path: &[u8]) {
+// Is the table saved?
+fn save(reader: Reader, table: &[u8], path: &[u8]) -> bool {
     let mut image = [0u8; MOST_IMAGE];
     match reader.save(table, &mut image) {
         Saved::Whole(n) => {
-            if n <= MOST_IMAGE {
-                files::store(path, &image[..n]);
+            if n > MOST_IMAGE {
+                return false;
             }
+            files::store(path, &image[..n])
         }
-        Saved::Unsaved(r) => print_not(path, b": not saved: refused ", image::refusal_number(r)),
+        Saved::Unsaved(r) => {
+            print_not(path, b": not saved: refused ", image::refusal_number(r));
+            false
+        }
     }
 }
 
-fn save_to(argument: usize, reader: Reader, table: &[u8], path: &mut [u8]) {
+fn save_to(argument: usize, reader: Reader, table: &[u8], path: &mut [u8]) -> bool {
     if argument == 0 {
-        return;
+        return true;
     }
     let n = os::arg(argument, path);
-    save(reader, table, &path[..n]);
+    save(reader, table, &path[..n])
 }
 
-// The reader to begin with, and whether there is one.
+// The reader to begin with, whether there is one, and what to end with if not.
 struct Begun {
     reader: Reader,
     is_ready: bool,
+    status: u8,
 }
 
-fn none(reader: Reader) -> Begun {
+fn none(reader: Reader, status: u8) -> Begun {
     Begun {
         reader,
         is_ready: false,
+        status,
     }
 }
 
-fn started(table: &mut [u8]) -> Begun {
-    let s = Reader::start(table);
-    let reader = s.reader;
+fn ready(reader: Reader) -> Begun {
     Begun {
         reader,
         is_ready: true,
+        status: FINE,
     }
 }
 
@@ -121,15 +149,17 @@ fn restored(path: &[u8], saved: &[u8], table: &mut [u8]) -> Begun {
     let reader = back.reader;
     let verdict = back.verdict;
     match verdict {
-        Verdict::Accepted => Begun {
-            reader,
-            is_ready: true,
-        },
+        Verdict::Accepted => ready(reader),
         Verdict::Refused(r) => {
             print_refused(path, image::refusal_number(r));
-            none(reader)
+            none(reader, REFUSED)
         }
     }
+}
+
+fn started(table: &mut [u8]) -> Begun {
+    let s = Reader::start(table);
+    ready(s.reader)
 }
 
 fn begin(from: usize, path: &mut [u8], table: &mut [u8]) -> Begun {
@@ -142,41 +172,101 @@ fn begin(from: usize, path: &mut [u8], table: &mut [u8]) -> Begun {
     match files::load(&path[..n], &mut saved) {
         Loaded::Bytes(size) => {
             if size > LONGER_IMAGE {
-                return none(fresh.reader);
+                return none(fresh.reader, FAILED);
             }
             restored(&path[..n], &saved[..size], table)
         }
-        Loaded::Failed => none(fresh.reader),
+        Loaded::Failed => none(fresh.reader, FAILED),
     }
 }
 
-fn run(wanted: Wanted, path: &mut [u8], table: &mut [u8]) {
+// The descriptor of the session, or -1.
+fn open_session(argument: usize, path: &mut [u8]) -> i32 {
+    if argument == 0 {
+        return STDIN_FILENO;
+    }
+    let n = os::arg(argument, path);
+    files::open(&path[..n])
+}
+
+// What came of a session that could not be read to its end is saved; where nothing came, a file that is there stays.
+fn salvage(argument: usize, heard: Heard, table: &[u8], path: &mut [u8]) {
+    if heard.any {
+        save_to(argument, heard.reader, table, path);
+    }
+}
+
+// Why the session could not be read to its end.
+fn complain(argument: usize, error: i32, path: &mut [u8]) {
+    if argument == 0 {
+        files::complain_input(b"standard input", error);
+        return;
+    }
+    let n = os::arg(argument, path);
+    files::complain_input(&path[..n], error);
+}
+
+// Saved first, and then listed.
+fn finish(wanted: Wanted, reader: Reader, table: &[u8], path: &mut [u8]) -> u8 {
+    let ending = listing::ending_for(reader.refusal, reader.ended);
+    let is_saved = save_to(wanted.save, reader, table, path);
+    if !print_listing(reader, table, ending) {
+        files::complain_output();
+        return FAILED;
+    }
+    if !is_saved {
+        return FAILED;
+    }
+    if reader.refusal != 0 { REFUSED } else { FINE }
+}
+
+// What was heard is saved and listed, or it is said why the session could not be read to its end.
+fn conclude(wanted: Wanted, heard: Heard, table: &[u8], path: &mut [u8]) -> u8 {
+    if heard.error == 0 {
+        return finish(wanted, heard.reader, table, path);
+    }
+    salvage(wanted.save, heard, table, path);
+    complain(wanted.session, heard.error, path);
+    FAILED
+}
+
+fn proceed(wanted: Wanted, reader: Reader, fd: i32, path: &mut [u8], table: &mut [u8]) -> u8 {
+    let heard = session::read_all(fd, reader, table);
+    files::close(fd);
+    conclude(wanted, heard, table, path)
+}
+
+fn run(wanted: Wanted, path: &mut [u8], table: &mut [u8]) -> u8 {
     let begun = begin(wanted.from, path, table);
     if !begun.is_ready {
-        return;
+        return begun.status;
     }
-    let first = begun.reader;
-    let run = session::read_all(first, table);
-    if run.broken {
-        return;
+    let fd = open_session(wanted.session, path);
+    if fd < 0 {
+        return FAILED;
     }
-    let reader = run.reader;
-    let ending = run.ending;
-    save_to(wanted.save, reader, table, path);
-    print_listing(reader, table, ending);
+    proceed(wanted, begun.reader, fd, path, table)
+}
+
+// What the arguments ask for.
+fn answer(wanted: Wanted) -> u8 {
+    if wanted.wrong {
+        print_usage();
+        return WRONG;
+    }
+    if wanted.help {
+        print_help();
+        return FINE;
+    }
+    let mut path = io::buffer();
+    let mut table = [0u8; TABLE_SIZE];
+    run(wanted, &mut path, &mut table)
 }
 
 fn main() {
     let wanted = arguments::read();
-    if wanted.wrong {
-        print_usage();
-        return;
+    let status = answer(wanted);
+    if wanted.status {
+        io::print_decimal(STATUS_FILENO, status as u64);
     }
-    if wanted.help {
-        print_help();
-        return;
-    }
-    let mut path = io::buffer();
-    let mut table = [0u8; TABLE_SIZE];
-    run(wanted, &mut path, &mut table);
 }

@@ -1,131 +1,165 @@
-// The session on standard input: read in pieces as they come, and stepped through to its end.
-use libc::STDERR_FILENO;
-use libc::STDIN_FILENO;
-use listing::Ending;
+// The session: read in pieces as they come, and stepped through to its end.
+use crate::progress;
+use crate::progress::Progress;
 use reader::Reader;
-use reader::StepAnswer;
-use reader::refusals;
 ghost use mathlib.Core.Path.{_≡_};
 ghost use Prim.Native.Nat.{_≤_};
 ghost use lib.ListN.{length};
+ghost use Rattle.toplist.specs.Feeding.{takesMore, StepsOn, Feeds, Stays};
 
-// The reader, how far it is in the piece, whether it takes more, and whether its input could not be read.
+// A reader, and how far it is in the piece.
 pub struct Run {
     pub reader: Reader,
     pub at: usize,
-    pub open: bool,
-    pub broken: bool,
-    pub ending: Ending,
 }
 
-fn open(reader: Reader, at: usize) -> Run
-    ensures { λ r. ⌜ r .at ≡ at ⌝ }
+// What one read brought: the reader after it, how many bytes came, and the number of the error that broke the input off, 0 for none.
+struct Brought {
+    reader: Reader,
+    count: usize,
+    error: i32,
+}
+
+// The reader, whether any byte came and whether all have, the number of the error that broke the input off, 0 for none, and what was shown of it.
+pub struct Heard {
+    pub reader: Reader,
+    pub any: bool,
+    pub over: bool,
+    pub error: i32,
+    pub shown: Progress,
+}
+
+// Has the reader neither refused nor ended?
+fn takes_more(reader: Reader) -> bool
+    ensures { λ r. ⌜ r ≡ takesMore reader ⌝ }
 {
-    Run {
-        reader,
-        at,
-        open: true,
-        broken: false,
-        ending: Ending::RanOut,
+    if reader.refusal != 0 {
+        return false;
     }
-}
-
-fn shut(reader: Reader, at: usize, ending: Ending) -> Run
-    ensures { λ r. ⌜ r .at ≡ at ⌝ }
-{
-    Run {
-        reader,
-        at,
-        open: false,
-        broken: false,
-        ending,
-    }
-}
-
-fn broken(reader: Reader) -> Run {
-    Run {
-        reader,
-        at: 0,
-        open: false,
-        broken: true,
-        ending: Ending::RanOut,
-    }
-}
-
-// After a packet that was accepted.
-fn went(reader: Reader, at: usize) -> Run
-    ensures { λ r. ⌜ r .at ≡ at ⌝ }
-{
-    if reader.ended {
-        return shut(reader, at, Ending::Ended);
-    }
-    open(reader, at)
+    !reader.ended
 }
 
 // One step into the piece.
-fn step_on(given: Reader, at: usize, piece: &[u8], table: &mut [u8]) -> Run
-    requires { ⌜ at ≤ length (now piece) ⌝ }
-    ensures { λ r. ⌜ r .at ≤ length (now (piece .entry)) ⌝ }
+fn step_on(run: Run, piece: &[u8], table: &mut [u8]) -> Run
+    requires { ⌜ run .at ≤ length (now piece) ⌝ }
+    ensures { λ r. ⌜ StepsOn run (now (table .entry)) (now (piece .entry)) r (now (table .exit)) ⌝ }
 {
+    let given = run.reader;
+    let at = run.at;
     let s = given.step(&piece[at..], table);
     let reader = s.reader;
-    let answer = s.answer;
-    let after = at + s.taken;
-    match answer {
-        StepAnswer::Event(_) => went(reader, after),
-        StepAnswer::More => open(reader, after),
-        StepAnswer::Ended => shut(reader, after, Ending::Ended),
-        StepAnswer::Refused(r) => shut(reader, after, Ending::Refused(refusals::number(r))),
+    Run {
+        reader,
+        at: at + s.taken,
     }
 }
 
 // All of a piece, or as much as is taken. Each step takes a byte at least, so the turns do not run out.
-fn feed(reader: Reader, piece: &[u8], table: &mut [u8]) -> Run {
-    let mut run = open(reader, 0);
+fn feed(reader: Reader, piece: &[u8], table: &mut [u8]) -> Reader
+    ensures { λ r. ⌜ Feeds reader (now (table .entry)) (now (piece .entry)) r (now (table .exit)) ⌝ }
+{
+    let mut run = Run { reader, at: 0 };
     let mut turns = piece.len();
     while turns > 0 {
-        let at = run.at;
-        if !run.open {
-            break;
-        }
-        if at == piece.len() {
-            break;
-        }
         let before = run.reader;
-        run = step_on(before, at, piece, table);
+        if !takes_more(before) {
+            return before;
+        }
+        if run.at == piece.len() {
+            return before;
+        }
+        run = step_on(run, piece, table);
         turns -= 1;
     }
-    run
+    run.reader
 }
 
-// What comes next on standard input.
-fn read_some(reader: Reader, space: &mut [u8], table: &mut [u8]) -> Run {
-    let got = libc::read(STDIN_FILENO, space);
+// What comes next of the input.
+fn read_some(fd: i32, reader: Reader, space: &mut [u8], table: &mut [u8]) -> Brought
+    ensures { λ b. ⌜ Stays reader (now (table .entry)) (b .reader) (now (table .exit)) ⌝ }
+{
+    let got = libc::read(fd, space);
     if got < 0 {
-        io::write_all(STDERR_FILENO, b"toplist: ");
-        os::fail(b"standard input");
-        return broken(reader);
-    }
-    if got == 0 {
-        return shut(reader, 0, Ending::RanOut);
+        return Brought {
+            reader,
+            count: 0,
+            error: os::errno(),
+        };
     }
     let n = io::count(got, space);
-    feed(reader, &space[..n], table)
+    Brought {
+        reader: feed(reader, &space[..n], table),
+        count: n,
+        error: 0,
+    }
 }
 
-// All of standard input. A proved loop has to end, so it counts its turns down from a number that no run uses up.
-pub fn read_all(reader: Reader, table: &mut [u8]) -> Run {
-    let mut buffer = io::large_buffer();
-    let space: &mut [u8] = &mut buffer;
-    let mut run = open(reader, 0);
+// Is there no more to come? A read that a signal broke off is done again.
+fn is_over(count: usize, error: i32) -> bool {
+    if count != 0 {
+        return false;
+    }
+    error != libc::EINTR
+}
+
+// What has been heard, with what one more read brought.
+fn after(heard: Heard, b: Brought) -> Heard
+    ensures { λ h. ⌜ h .reader ≡ b .reader ⌝ }
+{
+    let reader = b.reader;
+    Heard {
+        reader,
+        any: heard.any | (b.count != 0),
+        over: is_over(b.count, b.error),
+        error: b.error,
+        shown: progress::told(heard.shown, b.count, reader.line.next),
+    }
+}
+
+// One more read.
+fn hear(fd: i32, heard: Heard, space: &mut [u8], table: &mut [u8]) -> Heard
+    ensures { λ h. ⌜ Stays (heard .reader) (now (table .entry)) (h .reader) (now (table .exit)) ⌝ }
+{
+    let b = read_some(fd, heard.reader, space, table);
+    after(heard, b)
+}
+
+// Does the reader take more, and may more come?
+fn goes_on(heard: Heard) -> bool {
+    if heard.over {
+        return false;
+    }
+    takes_more(heard.reader)
+}
+
+// Reads and steps to the end. A proved loop has to end, so it counts its turns down from a number that no run uses up.
+fn listen(fd: i32, reader: Reader, space: &mut [u8], table: &mut [u8]) -> Heard
+    ensures { λ h. ⌜ Stays reader (now (table .entry)) (h .reader) (now (table .exit)) ⌝ }
+{
+    let mut heard = Heard {
+        reader,
+        any: false,
+        over: false,
+        error: 0,
+        shown: progress::start(reader.line.next),
+    };
     let mut turns = u64::MAX;
     while turns > 0 {
-        if !run.open {
-            break;
+        if !goes_on(heard) {
+            return heard;
         }
-        let before = run.reader;
-        run = read_some(before, space, table);
+        heard = hear(fd, heard, space, table);
         turns -= 1;
     }
-    run
+    heard
+}
+
+// All of the input.
+pub fn read_all(fd: i32, reader: Reader, table: &mut [u8]) -> Heard
+    ensures { λ h. ⌜ Stays reader (now (table .entry)) (h .reader) (now (table .exit)) ⌝ }
+{
+    let mut buffer = io::large_buffer();
+    let heard = listen(fd, reader, &mut buffer, table);
+    progress::clear(heard.shown);
+    heard
 }

@@ -1,17 +1,22 @@
 -- `toplist::save` meets its contract.
 -- Assumes nothing.
 use mathlib.Core.Path.{_≡_}
+use Prim.Native.Nat.{_*_}
 use native.Mathlib.Omega.{arith}
-use borrow.Author.Needs.{needs}
 use lib.ListN.{length}
-use Rattle.toplist.proofs.Taken.{front-length}
+use Rattle.block.specs.Block.{blockSize}
+use Rattle.image.specs.Shape.{mostBlocks}
+use Rattle.toplist.proofs.Fronts.{front-length}
+use borrow.Author.Needs.{needs}
 use Rattle.toplist.proofs.save.Statement.{statement}
 use Rattle.toplist.proofs.save.Tie as tie
 
 slice-aggregate-store : tie.Need-slice-aggregate-store
-slice-aggregate-store c = let h : length (c .before .before .before .before .before .before .save .last .1 .1 .0) ≡ 33280 = search needs in front-length _ _ (omega arith)
+slice-aggregate-store c =
+    let h : length (c .before .before .before .before .before .before .save .last .1 .1 .0) ≡ mostBlocks * blockSize = search needs in
+    front-length _ _ (omega arith)
 
 pub save-spec : {M : Type 1} → statement M
 save-spec =
     tie.close
-    (tie.spec (λ c. search needs) (λ c κs. search needs) (λ c. search needs) (λ c. search needs) slice-aggregate-store (λ c κs. search needs) (λ c. search needs) (λ c. search needs) (λ c κs. search needs) (λ c κs. search needs) (λ c. search needs) (λ c. search needs) (λ c. search needs))
+    (tie.spec (λ c. search needs) (λ c κs. search needs) (λ c. search needs) (λ c. search needs) (λ c. search needs) slice-aggregate-store (λ c κs. search needs) (λ c. search needs) (λ c. search needs) (λ c κs. search needs) (λ c κs. search needs) (λ c. search needs) (λ c. search needs))

@@ -1,17 +1,18 @@
 -- `toplist::files::store` meets its contract.
 -- Assumes nothing.
-use mathlib.Core.Path.{_≡_}
 use native.Mathlib.Omega.{arith}
+use Rattle.toplist.proofs.Fronts.{front-length}
 use borrow.Author.Needs.{needs}
-use lib.ListN.{length}
-use Rattle.toplist.proofs.Taken.{front-length}
 use Rattle.toplist.proofs.files.store.Statement.{statement}
 use Rattle.toplist.proofs.files.store.Tie as tie
 
-slice-aggregate-replace : tie.Need-slice-aggregate-replace
-slice-aggregate-replace c = let h : length (c .before .before .copy2 .last .1 .1 .1 .0) ≡ 4096 = search needs in front-length _ _ (omega arith)
+slice-aggregate-store-at : tie.Need-slice-aggregate-store-at
+slice-aggregate-store-at c = front-length _ _ (c .before .before .before .before .followed .ensures)
+
+store-at-requires : tie.Need-store-at-requires
+store-at-requires c κs = omega (arith, front-length (c .before .before .before .before .followed .result) (c .before .before .before .before .followed .last .0) (c .before .before .before .before .followed .ensures))
 
 pub store-spec : {M : Type 1} → statement M
 store-spec =
     tie.close
-    (tie.spec (λ c κs. search needs) (λ c. search needs) (λ c κs. search needs) (λ c. search needs) (λ c. search needs) (λ c κs. search needs) (λ c. search needs) (λ c. search needs) (λ c κs. search needs) (λ c. search needs) (λ c. search needs) slice-aggregate-replace (λ c κs. search needs) (λ c. search needs))
+    (tie.spec (λ c κs. search needs) (λ c. search needs) (λ c. search needs) (λ c κs. search needs) (λ c. search needs) (λ c. search needs) (λ c κs. search needs) (λ c. search needs) (λ c κs. search needs) (λ c. search needs) (λ c κs. search needs) (λ c. search needs) (λ c. search needs) (λ c κs. search needs) (λ c. search needs) (λ c. search needs) slice-aggregate-store-at store-at-requires (λ c. search needs))
