@@ -13,7 +13,7 @@
  *                                  piece, n, event, sizeof event);
  *       piece += nelqubat_taken(a);
  *       n -= nelqubat_taken(a);
- *       ... until nelqubat_kind(a) is more, ended or refused
+ *       ... until nelqubat_is_event(a) is 0: more bytes wanted, ended or refused
  *   }
  *
  * The host lends all memory, each as a pointer and a count of bytes, and the
@@ -117,6 +117,13 @@ static inline unsigned nelqubat_refusal(uint32_t answer)
 static inline unsigned nelqubat_kind(uint32_t answer)
 {
     return answer >> 8 & 0xFF;
+}
+
+/* Whether a step told an event, so that the rest of the piece may tell more. */
+static inline int nelqubat_is_event(uint32_t answer)
+{
+    unsigned kind = nelqubat_kind(answer);
+    return kind >= NELQUBAT_LOGIN && kind <= NELQUBAT_SKIPPED;
 }
 
 static inline size_t nelqubat_taken(uint32_t answer)

@@ -1,6 +1,7 @@
 /* Makes inputs for the fuzzing target, from sessions that are named and from
  * small ones of its own: corpus FOLDER SESSION... */
 #include "edges.h"
+#include "file.h"
 #include "generate.h"
 #include "nelqubat.h"
 #include "oracle.h"
@@ -159,18 +160,9 @@ static bool add_made(void)
 
 static bool read_session(const char *path)
 {
-    FILE *f = fopen(path, "rb");
-    bool good;
-    if (f == NULL) {
-        perror(path);
-        return false;
-    }
-    session_n = fread(session, 1, sizeof session, f);
-    good = !ferror(f);
-    fclose(f);
-    if (!good)
-        fprintf(stderr, "corpus: %s cannot be read\n", path);
-    return good;
+    long n = read_file("corpus", path, session, sizeof session);
+    session_n = n < 0 ? 0 : (size_t)n;
+    return n >= 0;
 }
 
 int main(int argc, char **argv)

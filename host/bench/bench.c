@@ -116,11 +116,6 @@ static void make_messages(size_t scale)
 
 /* The turns. */
 
-static bool goes_on(unsigned kind)
-{
-    return kind != NELQUBAT_MORE && kind != NELQUBAT_ENDED && kind != NELQUBAT_REFUSED;
-}
-
 static void read_library_session(void)
 {
     uint8_t event[NELQUBAT_RECORD_BYTES];
@@ -132,7 +127,7 @@ static void read_library_session(void)
             a = nelqubat_step(handle, sizeof handle, table, sizeof table,
                               work.session.at + at, end - at, event, sizeof event);
             at += nelqubat_taken(a);
-        } while (goes_on(nelqubat_kind(a)));
+        } while (nelqubat_is_event(a));
         if (nelqubat_kind(a) != NELQUBAT_MORE)
             break;
     }

@@ -8,6 +8,7 @@
  *   3  a message to read, and a record to write
  * With FUZZ_MAIN it has a main that runs every file which is named.
  */
+#include "file.h"
 #include "generate.h"
 #include "pair.h"
 
@@ -166,21 +167,10 @@ int LLVMFuzzerTestOneInput(const uint8_t *data, size_t size)
 static bool run_file(const char *path)
 {
     static uint8_t data[INPUT_ROOM];
-    FILE *f = fopen(path, "rb");
-    size_t n;
-    bool good;
-    if (f == NULL) {
-        perror(path);
-        return false;
-    }
-    n = fread(data, 1, sizeof data, f);
-    good = !ferror(f);
-    fclose(f);
-    if (!good)
-        fprintf(stderr, "fuzz: %s cannot be read\n", path);
-    else
-        LLVMFuzzerTestOneInput(data, n);
-    return good;
+    long n = read_file("fuzz", path, data, sizeof data);
+    if (n >= 0)
+        LLVMFuzzerTestOneInput(data, (size_t)n);
+    return n >= 0;
 }
 
 int main(int argc, char **argv)

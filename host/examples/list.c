@@ -9,15 +9,14 @@ static uint8_t handle[NELQUBAT_HANDLE_BYTES], table[NELQUBAT_TABLE_BYTES];
 static int feed(const uint8_t *piece, size_t n)
 {
     uint8_t event[NELQUBAT_RECORD_BYTES];
-    unsigned kind;
+    uint32_t answer;
     do {
-        uint32_t answer = nelqubat_step(handle, sizeof handle, table, sizeof table,
-                                        piece, n, event, sizeof event);
-        kind = nelqubat_kind(answer);
+        answer = nelqubat_step(handle, sizeof handle, table, sizeof table, piece, n, event,
+                               sizeof event);
         piece += nelqubat_taken(answer);
         n -= nelqubat_taken(answer);
-    } while (kind != NELQUBAT_MORE && kind != NELQUBAT_ENDED && kind != NELQUBAT_REFUSED);
-    return kind == NELQUBAT_MORE;
+    } while (nelqubat_is_event(answer));
+    return nelqubat_kind(answer) == NELQUBAT_MORE;
 }
 
 static void print_listing(void)
@@ -40,15 +39,15 @@ int main(void)
         n = fread(piece, 1, sizeof piece, stdin);
     while (n != 0 && feed(piece, n));
     if (ferror(stdin)) {
-        perror("example: standard input");
+        perror("list: standard input");
         return 1;
     }
     print_listing();
     if (fflush(stdout) != 0 || ferror(stdout)) {
-        perror("example: standard output");
+        perror("list: standard output");
         return 1;
     }
     if (nelqubat_handle_refusal(handle) != 0)
-        fprintf(stderr, "example: %s\n", nelqubat_refusal_name(nelqubat_handle_refusal(handle)));
+        fprintf(stderr, "list: %s\n", nelqubat_refusal_name(nelqubat_handle_refusal(handle)));
     return nelqubat_handle_refusal(handle) != 0;
 }

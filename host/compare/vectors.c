@@ -1,8 +1,9 @@
 /* Runs the cases of vectors.txt, by the library and by the plain reader, and
  * prints each that did not come as it is written there. The text says what a
  * line is; here each command is a function that tells what came in words. */
+#include "calls.h"
+#include "generate.h"
 #include "nelqubat.h"
-#include "oracle.h"
 
 #include <ctype.h>
 #include <stdarg.h>
@@ -28,22 +29,6 @@ enum place { HANDLE, TABLE, EVENT, RECORD, IMAGE, OUT, SPARE, NAMED, GIVEN = NAM
 
 static const char *const memory_names[NAMED] = {
     "handle", "table", "event", "record", "image", "out", "spare"};
-
-/* The calls under test: the library's, or the same over the plain reader. */
-struct calls {
-    const char *name;
-    uint32_t (*start)(uint8_t *, size_t, uint8_t *, size_t);
-    uint32_t (*step)(uint8_t *, size_t, uint8_t *, size_t, const uint8_t *, size_t, uint8_t *, size_t);
-    uint32_t (*save)(const uint8_t *, size_t, const uint8_t *, size_t, uint8_t *, size_t);
-    uint32_t (*restore)(uint8_t *, size_t, uint8_t *, size_t, const uint8_t *, size_t);
-    uint32_t (*read)(const uint8_t *, size_t, uint8_t *, size_t);
-    uint32_t (*write)(const uint8_t *, size_t, uint8_t *, size_t);
-    uint32_t (*line)(const uint8_t *, size_t, const uint8_t *, size_t, size_t, uint8_t *, size_t);
-};
-
-static const struct calls both[2] = {
-    {"library", nelqubat_start, nelqubat_step, nelqubat_save, nelqubat_restore, nelqubat_read, nelqubat_write, nelqubat_line},
-    {"plain reader", oracle_start, oracle_step, oracle_save, oracle_restore, oracle_read, oracle_write, oracle_line}};
 
 static const struct calls *calls;
 static struct memory memories[PLACES];
@@ -144,13 +129,11 @@ static uint64_t number_at(const struct memory *m, size_t at)
     return nelqubat_get(m->bytes + at, 8);
 }
 
-/* The check of a block, by its definition. */
+/* The check of a block, put right. */
 static void put_check(uint8_t *block)
 {
-    uint32_t sum = 0;
-    for (uint32_t i = 0; i < 510; i++)
-        sum += (i + 1) * block[i];
-    nelqubat_set(block + 510, 2, sum % 65521);
+    struct bytes one = {block, NELQUBAT_BLOCK_BYTES, NELQUBAT_BLOCK_BYTES};
+    seal_image(&one);
 }
 
 /* ---- bytes as the text writes them */
@@ -771,7 +754,8 @@ static void do_sizes(char *line)
 /* Saved, restored over other bytes, and logged in again where a session is known. */
 static void resume(void)
 {
-    char login[34] = "__A";
+    uint8_t login[33];
+    struct bytes packet = {login, 0, sizeof login};
     fill_memory(&memories[OUT], NELQUBAT_IMAGE_BYTES, 0xee);
     size_t n = call_save() / 256;
     fill_memory(&memories[HANDLE], NELQUBAT_HANDLE_BYTES, 0x11);
@@ -779,10 +763,8 @@ static void resume(void)
     call_restore(memories[OUT].bytes, n);
     if (memories[HANDLE].bytes[42] != 1)
         return;
-    nelqubat_set((uint8_t *)login, 2, 31);
-    memcpy(login + 3, memories[HANDLE].bytes + 32, NELQUBAT_SESSION_BYTES);
-    snprintf(login + 13, sizeof login - 13, "%20llu", (unsigned long long)number_at(&memories[HANDLE], 0));
-    call_step((const uint8_t *)login, 33);
+    put_login(&packet, memories[HANDLE].bytes + 32, number_at(&memories[HANDLE], 0));
+    call_step(packet.at, packet.n);
 }
 
 static void do_resumed(char *line)
@@ -944,6 +926,6 @@ int main(int argc, char **argv)
         return 2;
     }
     fclose(file);
-    bool library = run_text(text, &both[0]), plain = run_text(text, &both[1]);
+    bool library = run_text(text, &library_calls), plain = run_text(text, &plain_calls);
     return !(library && plain);
 }

@@ -4,19 +4,8 @@
 #ifndef GENERATE_H
 #define GENERATE_H
 
+#include "dice.h"
 #include "plain.h"
-
-/* A small fixed generator of random numbers (splitmix64). */
-struct dice {
-    uint64_t state;
-};
-
-struct dice dice_seeded(uint64_t seed);
-uint64_t dice_next(struct dice *d);
-uint64_t dice_below(struct dice *d, uint64_t bound);                 /* 0 to bound - 1 */
-uint64_t dice_between(struct dice *d, uint64_t low, uint64_t high);  /* both ends included */
-bool dice_chance(struct dice *d, unsigned percent);
-void dice_fill(struct dice *d, uint8_t *out, size_t n);
 
 /* Bytes in lent memory. */
 struct bytes {

@@ -1,6 +1,7 @@
 #include "pair.h"
 
-#include "oracle.h"
+#include "calls.h"
+#include "generate.h"
 
 #include <stdio.h>
 #include <string.h>
@@ -14,33 +15,6 @@
 enum { WHOLE_EVERY = 64, ROWS_EACH_STEP = 16 };
 
 enum { GUARD_FILL = 0xA5, MEMORY_FILL = 0xC3 };
-
-/* The functions of either side. */
-struct functions {
-    uint32_t (*start)(uint8_t *, size_t, uint8_t *, size_t);
-    uint32_t (*step)(uint8_t *, size_t, uint8_t *, size_t, const uint8_t *, size_t,
-                     uint8_t *, size_t);
-    uint32_t (*save)(const uint8_t *, size_t, const uint8_t *, size_t, uint8_t *, size_t);
-    uint32_t (*restore)(uint8_t *, size_t, uint8_t *, size_t, const uint8_t *, size_t);
-    uint32_t (*read)(const uint8_t *, size_t, uint8_t *, size_t);
-    uint32_t (*write)(const uint8_t *, size_t, uint8_t *, size_t);
-    uint32_t (*line)(const uint8_t *, size_t, const uint8_t *, size_t, size_t,
-                     uint8_t *, size_t);
-};
-
-static const struct functions plain_functions = {
-    oracle_start, oracle_step, oracle_save, oracle_restore,
-    oracle_read, oracle_write, oracle_line};
-
-/* Inputs for the fuzzing target can also be looked for on a machine that the
- * library is not built for: the plain reader then stands on both sides. */
-#ifdef PAIR_WITHOUT_LIBRARY
-#define library_functions plain_functions
-#else
-static const struct functions library_functions = {
-    nelqubat_start, nelqubat_step, nelqubat_save, nelqubat_restore,
-    nelqubat_read, nelqubat_write, nelqubat_line};
-#endif
 
 static const char *const names[OPERATIONS] = {
     "start", "step", "feed", "save", "restore", "resume", "read", "write", "line"};
@@ -172,7 +146,7 @@ bool pair_same(struct pair *p)
     return same_handle_and_small(p) && same_whole_table(p) && same_image(p);
 }
 
-static uint32_t make_call(const struct functions *f, struct world *w,
+static uint32_t make_call(const struct calls *f, struct world *w,
                           const struct call *c, const uint8_t *input, size_t n)
 {
     uint8_t *handle = w->handle + GUARD_BYTES, *table = w->table + GUARD_BYTES;
@@ -221,8 +195,8 @@ static bool call_both(struct pair *p, const struct call *c, const uint8_t *libra
     uint32_t got;
     p->doing = c->op;
     p->calls++;
-    got = make_call(&library_functions, &p->library, c, library_input, n);
-    p->answer = make_call(&plain_functions, &p->plain, c, plain_input, n);
+    got = make_call(&library_calls, &p->library, c, library_input, n);
+    p->answer = make_call(&plain_calls, &p->plain, c, plain_input, n);
     if (c->op == CALL_STEP && ends_packet(p->answer))
         p->packets++;
     if (c->op == CALL_SAVE)
@@ -266,7 +240,7 @@ static bool feed(struct pair *p, const struct call *c, const uint8_t *input)
             return false;
         kind = nelqubat_kind(p->answer);
         at += nelqubat_taken(p->answer);
-    } while (kind != NELQUBAT_MORE && kind != NELQUBAT_ENDED && kind != NELQUBAT_REFUSED);
+    } while (nelqubat_is_event(p->answer));
     if (kind != NELQUBAT_MORE)
         p->idle++;
     return same_input(p, input, c->input_n);
@@ -277,7 +251,8 @@ static bool resume(struct pair *p, const struct call *c)
 {
     static uint8_t image[IMAGE_ROOM];
     struct call save = *c, restore = usual_call(CALL_RESTORE), login = usual_call(CALL_FEED);
-    uint8_t packet[34];
+    uint8_t packet[33];
+    struct bytes bytes = {packet, 0, sizeof packet};
     const uint8_t *handle = p->plain.handle + GUARD_BYTES;
     save.op = CALL_SAVE;
     if (!call_once(p, &save, NULL))
@@ -289,10 +264,8 @@ static bool resume(struct pair *p, const struct call *c)
     if (!call_once(p, &restore, image))
         return false;
     p->idle = 0;
-    snprintf((char *)packet + 13, 21, "%20llu", (unsigned long long)nelqubat_handle_next(handle));
-    memcpy(packet, "\x00\x1F" "A", 3);
-    memcpy(packet + 3, nelqubat_handle_session(handle), NELQUBAT_SESSION_BYTES);
-    login.input_n = 33;
+    put_login(&bytes, nelqubat_handle_session(handle), nelqubat_handle_next(handle));
+    login.input_n = (uint32_t)bytes.n;
     return feed(p, &login, packet);
 }
 
@@ -307,7 +280,7 @@ bool pair_call(struct pair *p, const struct call *c, const uint8_t *input)
     return call_once(p, c, input);
 }
 
-#ifndef PAIR_WITHOUT_LIBRARY
+#ifndef CALLS_WITHOUT_LIBRARY
 bool pair_sizes(struct pair *p)
 {
     if (nelqubat_handle_size() == NELQUBAT_HANDLE_BYTES &&

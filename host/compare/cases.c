@@ -152,21 +152,8 @@ void make_session_case(struct dice *d, bool damaged, struct script *s, struct ta
 
 /* Handles. */
 
-/* Changes to one byte. They draw after the place has been drawn, so that the
- * order of drawing is the same under every compiler. */
-
-static void change_byte(struct dice *d, uint8_t *p)
-{
-    *p ^= (uint8_t)dice_between(d, 1, 255);
-}
-
-static void flip_bit(struct dice *d, uint8_t *p)
-{
-    *p ^= (uint8_t)(1 << dice_below(d, 8));
-}
-
 /* A number of any magnitude. */
-static void set_number(struct dice *d, uint8_t *p)
+static void set_magnitude(struct dice *d, uint8_t *p)
 {
     uint64_t v = dice_next(d);
     nelqubat_set(p, 8, v >> dice_below(d, 64));
@@ -182,13 +169,13 @@ static void damage_handle(struct dice *d, struct plain_reader *r, uint8_t *handl
             memset(handle + NELQUBAT_HANDLE_KNOWN, (int)dice_below(d, 2), 3);
         break;
     case 1:
-        change_byte(d, &handle[dice_between(d, NELQUBAT_HANDLE_KNOWN, NELQUBAT_HANDLE_ENDED)]);
+        set_other(d, &handle[dice_between(d, NELQUBAT_HANDLE_KNOWN, NELQUBAT_HANDLE_ENDED)]);
         break;
     case 2:
-        change_byte(d, &handle[dice_below(d, NELQUBAT_HANDLE_PACKET + 4)]);
+        set_other(d, &handle[dice_below(d, NELQUBAT_HANDLE_PACKET + 4)]);
         break;
     case 3:
-        set_number(d, handle + 8 * dice_below(d, 4));
+        set_magnitude(d, handle + 8 * dice_below(d, 4));
         break;
     case 4:
         spoil_reader(d, r);
