@@ -7,6 +7,7 @@
 #define _POSIX_C_SOURCE 200809L
 
 #include "cases.h"
+#include "met.h"
 
 #include <errno.h>
 #include <signal.h>
@@ -15,8 +16,9 @@
 #include <string.h>
 #include <unistd.h>
 
-/* A round takes some hundredths of a second, even emulated. */
-enum { DEFAULT_SEED = 1, DEFAULT_ROUNDS = 3000, ROUND_SECONDS = 120 };
+/* A round takes some hundredths of a second, even emulated. Within 300 rounds
+ * the rarest answer comes some thirty times. */
+enum { DEFAULT_SEED = 1, DEFAULT_ROUNDS = 3000, ROUND_SECONDS = 120, ROUNDS_FOR_ALL = 300 };
 
 static struct pair pair;
 static struct script script, spare;
@@ -89,7 +91,9 @@ static int run_rounds(uint64_t seed, uint64_t rounds)
            (unsigned long long)seed, (unsigned long long)rounds, pair.packets,
            tally.damaged, pair.calls, tally.sessions, tally.handles, tally.images,
            tally.records);
-    return fflush(stdout) == 0 ? 0 : 1;
+    if (rounds < ROUNDS_FOR_ALL)
+        printf("compare: fewer than %d rounds: not everything need be met\n", ROUNDS_FOR_ALL);
+    return met_report(&pair.met, rounds >= ROUNDS_FOR_ALL) && fflush(stdout) == 0 ? 0 : 1;
 }
 
 static int replay(const char *path)

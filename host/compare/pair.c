@@ -2,6 +2,7 @@
 
 #include "calls.h"
 #include "generate.h"
+#include "met.h"
 
 #include <stdio.h>
 #include <string.h>
@@ -197,6 +198,7 @@ static bool call_both(struct pair *p, const struct call *c, const uint8_t *libra
     p->calls++;
     got = make_call(&library_calls, &p->library, c, library_input, n);
     p->answer = make_call(&plain_calls, &p->plain, c, plain_input, n);
+    met_count(&p->met, c, p->answer, &p->plain, plain_input);
     if (c->op == CALL_STEP && ends_packet(p->answer))
         p->packets++;
     if (c->op == CALL_SAVE)

@@ -52,8 +52,24 @@ struct world {
     uint8_t image[GUARD_BYTES + IMAGE_ROOM + GUARD_BYTES];
 };
 
+/* What the calls met; met.h counts and prints it. */
+enum met_row {
+    MET_START, MET_STEP, MET_AGAIN, MET_SAVE, MET_RESTORE, MET_READ, MET_WRITE, MET_LINE,
+    MET_ROWS
+};
+
+enum { MET_REFUSALS = 27, MET_KINDS = 9, MET_LETTERS = 10, MET_LETTER_CALLS = 3, MET_LINES = 4 };
+
+struct met {
+    unsigned long refusals[MET_ROWS][MET_REFUSALS];
+    unsigned long kinds[MET_KINDS];                      /* of a step's answer */
+    unsigned long letters[MET_LETTER_CALLS][MET_LETTERS]; /* told by a step, read, written */
+    unsigned long lines[MET_LINES];                      /* the first, a row's, the last, past it */
+};
+
 struct pair {
     struct world library, plain;
+    struct met met;
     uint8_t input[INPUT_ROOM];  /* the library's copy of a call's input */
     bool thorough;              /* compare the whole table after every call */
     unsigned since;             /* steps since the whole table was compared */

@@ -1,0 +1,162 @@
+#include "met.h"
+
+#include <stdio.h>
+#include <string.h>
+
+static const char letters[] = "SmHqQbaBAM";
+
+static const char *const kind_names[MET_KINDS] = {
+    "more", "login", "rejected", "message", "heartbeat", "end", "skipped", "ended", "refused"};
+
+static const char *const line_names[MET_LINES] = {"first", "row", "last", "past"};
+
+/* The refusals that document 01 gives each call, and 0 for done. What a step
+ * refuses in a packet stands from then on, and is given again. */
+static const struct {
+    const char *name;
+    size_t count;
+    uint8_t refusals[15];
+} rows[MET_ROWS] = {
+    [MET_START] = {"start", 2, {0, 20}},
+    [MET_STEP] = {"step", 15, {0, 1, 2, 3, 4, 5, 6, 10, 11, 12, 13, 14, 15, 16, 20}},
+    [MET_AGAIN] = {"step again", 13, {1, 2, 3, 4, 5, 6, 10, 11, 12, 13, 14, 15, 16}},
+    [MET_SAVE] = {"save", 4, {0, 20, 24, 25}},
+    [MET_RESTORE] = {"restore", 6, {0, 20, 21, 22, 23, 24}},
+    [MET_READ] = {"read", 5, {0, 10, 11, 12, 20}},
+    [MET_WRITE] = {"write", 4, {0, 20, 25, 26}},
+    [MET_LINE] = {"line", 3, {0, 20, 25}},
+};
+
+static enum met_row row_of(const struct call *c, uint32_t answer)
+{
+    static const enum met_row rows_of[OPERATIONS] = {
+        [CALL_START] = MET_START, [CALL_STEP] = MET_STEP, [CALL_SAVE] = MET_SAVE,
+        [CALL_RESTORE] = MET_RESTORE, [CALL_READ] = MET_READ, [CALL_WRITE] = MET_WRITE,
+        [CALL_LINE] = MET_LINE};
+    bool repeats = c->op == CALL_STEP && nelqubat_kind(answer) == NELQUBAT_REFUSED &&
+                   nelqubat_refusal(answer) != NELQUBAT_REFUSED_MEMORY &&
+                   nelqubat_taken(answer) == 0;
+    return repeats ? MET_AGAIN : rows_of[c->op];
+}
+
+static void count_letter(unsigned long *counts, uint8_t letter)
+{
+    const char *place = memchr(letters, letter, MET_LETTERS);
+    if (place != NULL)
+        counts[place - letters]++;
+}
+
+static unsigned line_of(uint64_t k, uint64_t rows_used)
+{
+    return k == 0 ? 0 : k <= rows_used ? 1 : k == rows_used + 1 ? 2 : 3;
+}
+
+/* What a call that is done answers: a kind, a letter, a sort of line. */
+static void count_done(struct met *m, const struct call *c, uint32_t answer,
+                       const struct world *plain, const uint8_t *input)
+{
+    const uint8_t *small = plain->small + GUARD_BYTES;
+    if (c->op == CALL_STEP)
+        m->kinds[nelqubat_kind(answer)]++;
+    if (c->op == CALL_STEP && nelqubat_kind(answer) == NELQUBAT_MESSAGE)
+        count_letter(m->letters[0], small[0]);
+    if (c->op == CALL_READ)
+        count_letter(m->letters[1], small[0]);
+    if (c->op == CALL_WRITE)
+        count_letter(m->letters[2], input[0]);
+    if (c->op == CALL_LINE)
+        m->lines[line_of(c->k, nelqubat_handle_rows(plain->handle + GUARD_BYTES))]++;
+}
+
+void met_count(struct met *m, const struct call *c, uint32_t answer,
+               const struct world *plain, const uint8_t *input)
+{
+    unsigned refusal = nelqubat_refusal(answer);
+    if (refusal < MET_REFUSALS)
+        m->refusals[row_of(c, answer)][refusal]++;
+    if (refusal == 0)
+        count_done(m, c, answer, plain, input);
+    else if (c->op == CALL_STEP)
+        m->kinds[NELQUBAT_REFUSED]++;
+}
+
+/* One line of the table. A cell that cannot be met must be empty, and where
+ * `all` is asked for, one that can be met must not be. */
+struct line {
+    const char *call;
+    bool all, good;
+};
+
+static struct line begin_line(const char *call, bool all)
+{
+    printf("met: %-10s", call);
+    return (struct line){call, all, true};
+}
+
+static void add_cell(struct line *l, const char *what, unsigned long count, bool can)
+{
+    if (count != 0)
+        printf(" %s:%lu", what, count);
+    if (count != 0 ? can : !(can && l->all))
+        return;
+    fprintf(stderr, "compare: %s: %s %s\n", l->call, what,
+            can ? "was never met" : "was met, which document 01 rules out");
+    l->good = false;
+}
+
+static bool end_line(const struct line *l)
+{
+    putchar('\n');
+    return l->good;
+}
+
+static bool can_refuse(enum met_row row, unsigned refusal)
+{
+    for (size_t i = 0; i < rows[row].count; i++)
+        if (rows[row].refusals[i] == refusal)
+            return true;
+    return false;
+}
+
+static bool report_refusals(const struct met *m, enum met_row row, bool all)
+{
+    struct line l = begin_line(rows[row].name, all);
+    for (unsigned n = 0; n < MET_REFUSALS; n++) {
+        char name[16] = "done";
+        if (n != 0)
+            snprintf(name, sizeof name, "%u", n);
+        add_cell(&l, name, m->refusals[row][n], can_refuse(row, n));
+    }
+    return end_line(&l);
+}
+
+static bool report_names(const char *call, const char *const *names,
+                         const unsigned long *counts, size_t n, bool all)
+{
+    struct line l = begin_line(call, all);
+    for (size_t i = 0; i < n; i++)
+        add_cell(&l, names[i], counts[i], true);
+    return end_line(&l);
+}
+
+static bool report_letters(const char *call, const unsigned long *counts, bool all)
+{
+    struct line l = begin_line(call, all);
+    for (size_t i = 0; i < MET_LETTERS; i++) {
+        char name[2] = {letters[i], 0};
+        add_cell(&l, name, counts[i], true);
+    }
+    return end_line(&l);
+}
+
+bool met_report(const struct met *m, bool all)
+{
+    static const char *const letter_calls[MET_LETTER_CALLS] = {"step", "read", "write"};
+    bool good = true;
+    for (unsigned row = 0; row < MET_ROWS; row++)
+        good &= report_refusals(m, (enum met_row)row, all);
+    good &= report_names("step", kind_names, m->kinds, MET_KINDS, all);
+    for (size_t i = 0; i < MET_LETTER_CALLS; i++)
+        good &= report_letters(letter_calls[i], m->letters[i], all);
+    return report_names("line", line_names, m->lines, MET_LINES, all) && good;
+}
