@@ -145,14 +145,14 @@ void oracle_pack_record(const struct plain_message *m, uint8_t *record)
 
 static struct plain_long_side unpack_long(const uint8_t *at)
 {
-    struct nelqubat_side s = nelqubat_side_at(at);
-    return (struct plain_long_side){s.market, s.price, s.size, s.customer,
+    struct nelqubat_side s = nelqubat_side_at(at, 1);
+    return (struct plain_long_side){s.market, s.price_on_wire, s.size, s.customer,
                                     s.professional};
 }
 
 static struct plain_short_side unpack_short(const uint8_t *at)
 {
-    struct nelqubat_side s = nelqubat_side_at(at);
+    struct plain_long_side s = unpack_long(at);
     return (struct plain_short_side){
         (uint16_t)s.market, (uint16_t)s.price, (uint16_t)s.size,
         (uint16_t)s.customer, (uint16_t)s.professional};

@@ -285,6 +285,12 @@ static inline uint8_t nelqubat_handle_event(const uint8_t *handle)
     return handle[NELQUBAT_HANDLE_EVENT];
 }
 
+/* The held bytes of an unfinished packet, as many as are held. */
+static inline const uint8_t *nelqubat_handle_packet(const uint8_t *handle)
+{
+    return handle + NELQUBAT_HANDLE_PACKET;
+}
+
 /* The event memory after a login, and after a rejected login. */
 
 static inline uint64_t nelqubat_login_number(const uint8_t *event)
@@ -302,16 +308,27 @@ static inline uint8_t nelqubat_rejected_reason(const uint8_t *event)
     return event[0];
 }
 
-/* One side of a quote. */
+/* One side of a quote. Its price is in ten-thousandths of a dollar whatever
+ * the message was; `price_on_wire` is the number that the message had, which is
+ * in pennies for q, b and a. A row keeps ten-thousandths, so there both are the
+ * same. */
 struct nelqubat_side {
-    uint32_t market, price, size, customer, professional;
+    uint32_t market, price, size, customer, professional, price_on_wire;
 };
 
-static inline struct nelqubat_side nelqubat_side_at(const uint8_t *at)
+/* How many ten-thousandths of a dollar a message's letter counts prices in. */
+static inline uint32_t nelqubat_price_unit(uint8_t letter)
+{
+    return letter == 'q' || letter == 'b' || letter == 'a' ? 100 : 1;
+}
+
+/* A side from its 20 bytes, with prices counted in that unit. */
+static inline struct nelqubat_side nelqubat_side_at(const uint8_t *at, uint32_t unit)
 {
     struct nelqubat_side side;
     side.market = (uint32_t)nelqubat_get(at, 4);
-    side.price = (uint32_t)nelqubat_get(at + 4, 4);
+    side.price_on_wire = (uint32_t)nelqubat_get(at + 4, 4);
+    side.price = side.price_on_wire * unit;
     side.size = (uint32_t)nelqubat_get(at + 8, 4);
     side.customer = (uint32_t)nelqubat_get(at + 12, 4);
     side.professional = (uint32_t)nelqubat_get(at + 16, 4);
@@ -327,8 +344,8 @@ enum {
     NELQUBAT_RECORD_ID = 4,          /* 4: all but S and M */
     NELQUBAT_RECORD_TIME = 8,        /* 8: nanoseconds of the day, all but M */
     NELQUBAT_RECORD_NUMBER = 16,     /* 8: M */
-    NELQUBAT_RECORD_BID = 24,        /* 20: q b in pennies, Q B in 1/10000 dollar */
-    NELQUBAT_RECORD_ASK = 44,        /* 20: q a, Q A likewise */
+    NELQUBAT_RECORD_BID = 24,        /* 20: q b Q B, the price as on the wire */
+    NELQUBAT_RECORD_ASK = 44,        /* 20: q a Q A, likewise */
     NELQUBAT_RECORD_STRIKE = 64,     /* 4: from here on m only */
     NELQUBAT_RECORD_YEAR = 68,       /* 1 */
     NELQUBAT_RECORD_MONTH = 69,      /* 1 */
@@ -374,12 +391,14 @@ static inline uint64_t nelqubat_record_number(const uint8_t *record)
 
 static inline struct nelqubat_side nelqubat_record_bid(const uint8_t *record)
 {
-    return nelqubat_side_at(record + NELQUBAT_RECORD_BID);
+    return nelqubat_side_at(record + NELQUBAT_RECORD_BID,
+                            nelqubat_price_unit(nelqubat_record_letter(record)));
 }
 
 static inline struct nelqubat_side nelqubat_record_ask(const uint8_t *record)
 {
-    return nelqubat_side_at(record + NELQUBAT_RECORD_ASK);
+    return nelqubat_side_at(record + NELQUBAT_RECORD_ASK,
+                            nelqubat_price_unit(nelqubat_record_letter(record)));
 }
 
 static inline uint32_t nelqubat_record_strike(const uint8_t *record)
@@ -548,16 +567,14 @@ static inline int nelqubat_row_has_ask(const uint8_t *row)
     return (row[NELQUBAT_ROW_SIDES] & 2) != 0;
 }
 
-/* Prices of a row are in ten-thousandths of a dollar. */
-
 static inline struct nelqubat_side nelqubat_row_bid(const uint8_t *row)
 {
-    return nelqubat_side_at(row + NELQUBAT_ROW_BID);
+    return nelqubat_side_at(row + NELQUBAT_ROW_BID, 1);
 }
 
 static inline struct nelqubat_side nelqubat_row_ask(const uint8_t *row)
 {
-    return nelqubat_side_at(row + NELQUBAT_ROW_ASK);
+    return nelqubat_side_at(row + NELQUBAT_ROW_ASK, 1);
 }
 
 static inline uint16_t nelqubat_row_tracking(const uint8_t *row)
