@@ -1,0 +1,437 @@
+/* Tests what nelqubat.h itself does and says: every constant against the
+ * library's answers or plain.h, every helper against the plain reader's fields
+ * on memory that the library filled. */
+#include "nelqubat.h"
+
+#include "generate.h"
+#include "parts.h"
+
+#include <stdio.h>
+#include <stdlib.h>
+#include <string.h>
+
+static unsigned long checks;
+
+static void equal_at(int line, uint64_t got, uint64_t wanted)
+{
+    checks++;
+    if (got == wanted)
+        return;
+    fprintf(stderr, "header: line %d: got %llu, wanted %llu\n", line, (unsigned long long)got,
+            (unsigned long long)wanted);
+    exit(1);
+}
+
+#define EQUAL(got, wanted) equal_at(__LINE__, (uint64_t)(got), (uint64_t)(wanted))
+#define SAME(a, b, n) EQUAL(memcmp((a), (b), (n)), 0)
+#define LITERAL(text) (const uint8_t *)(text), sizeof(text) - 1
+
+/* The library's memory, and the plain reader's. */
+static uint8_t handle[NELQUBAT_HANDLE_BYTES], table[NELQUBAT_TABLE_BYTES];
+static uint8_t event[NELQUBAT_RECORD_BYTES], record[NELQUBAT_RECORD_BYTES];
+static uint8_t image[NELQUBAT_IMAGE_BYTES + NELQUBAT_BLOCK_BYTES];
+static struct plain_reader reader;
+static uint8_t plain_table[PLAIN_TABLE_BYTES];
+
+static void start_both(void)
+{
+    EQUAL(nelqubat_start(handle, sizeof handle, table, sizeof table), NELQUBAT_DONE);
+    EQUAL(plain_start(&reader, plain_table, sizeof plain_table), 0);
+}
+
+static uint32_t step(const uint8_t *piece, size_t n)
+{
+    return nelqubat_step(handle, sizeof handle, table, sizeof table, piece, n, event, sizeof event);
+}
+
+/* Sizes: those that the library states, and those of plain.h. */
+
+static void test_sizes(void)
+{
+    EQUAL(NELQUBAT_HANDLE_BYTES, nelqubat_handle_size());
+    EQUAL(NELQUBAT_TABLE_BYTES, nelqubat_table_size());
+    EQUAL(NELQUBAT_RECORD_BYTES, nelqubat_record_size());
+    EQUAL(NELQUBAT_ROW_BYTES, PLAIN_ROW_BYTES);
+    EQUAL(NELQUBAT_MAX_ROWS, PLAIN_MAX_ROWS);
+    EQUAL(NELQUBAT_TABLE_BYTES, PLAIN_TABLE_BYTES);
+    EQUAL(NELQUBAT_BLOCK_BYTES, PLAIN_BLOCK_BYTES);
+    EQUAL(NELQUBAT_IMAGE_BYTES, PLAIN_IMAGE_BYTES);
+    EQUAL(NELQUBAT_MESSAGE_BYTES, PLAIN_MESSAGE_BYTES);
+    EQUAL(NELQUBAT_PACKET_BYTES, PLAIN_PACKET_BYTES);
+    EQUAL(NELQUBAT_SESSION_BYTES, PLAIN_SESSION_BYTES);
+    EQUAL(NELQUBAT_LINE_BYTES, 80);
+}
+
+/* Numbers, answers and records. */
+
+static void test_numbers(void)
+{
+    struct dice d = dice_seeded(1);
+    for (size_t width = 1; width <= 8; width++) {
+        uint8_t ours[10], theirs[10];
+        uint64_t v = dice_next(&d);
+        memset(ours, 0xAA, sizeof ours);
+        memset(theirs, 0xAA, sizeof theirs);
+        nelqubat_set(ours + 1, width, v);
+        set_number(theirs + 1, width, v);
+        SAME(ours, theirs, sizeof ours);
+        EQUAL(nelqubat_get(ours + 1, width), get_number(ours + 1, width));
+    }
+}
+
+static void same_long(struct nelqubat_side s, const struct plain_long_side *p)
+{
+    EQUAL(s.market, p->market);
+    EQUAL(s.price, p->price);
+    EQUAL(s.price_on_wire, p->price);
+    EQUAL(s.size, p->size);
+    EQUAL(s.customer, p->customer);
+    EQUAL(s.professional, p->professional);
+}
+
+static void same_short(struct nelqubat_side s, const struct plain_short_side *p)
+{
+    EQUAL(s.market, p->market);
+    EQUAL(s.price, p->price * UINT32_C(100));
+    EQUAL(s.price_on_wire, p->price);
+    EQUAL(s.size, p->size);
+    EQUAL(s.customer, p->customer);
+    EQUAL(s.professional, p->professional);
+}
+
+static uint8_t one_letter(enum plain_which which, const char *letters)
+{
+    return (uint8_t)letters[which == PLAIN_BID ? 0 : 1];
+}
+
+static void same_one_short(const uint8_t *r, const struct plain_one_short *p)
+{
+    EQUAL(nelqubat_record_letter(r), one_letter(p->which, "ba"));
+    EQUAL(nelqubat_record_code(r), p->condition);
+    same_short(p->which == PLAIN_BID ? nelqubat_record_bid(r) : nelqubat_record_ask(r), &p->side);
+}
+
+static void same_one_long(const uint8_t *r, const struct plain_one_long *p)
+{
+    EQUAL(nelqubat_record_letter(r), one_letter(p->which, "BA"));
+    EQUAL(nelqubat_record_code(r), p->condition);
+    same_long(p->which == PLAIN_BID ? nelqubat_record_bid(r) : nelqubat_record_ask(r), &p->side);
+}
+
+static void same_directory(const uint8_t *r, const struct plain_message *m)
+{
+    EQUAL(nelqubat_record_letter(r), 'm');
+    EQUAL(nelqubat_record_strike(r), m->directory.strike);
+    EQUAL(nelqubat_record_year(r), m->directory.year);
+    EQUAL(nelqubat_record_month(r), m->directory.month);
+    EQUAL(nelqubat_record_day(r), m->directory.day);
+    EQUAL(nelqubat_record_type(r), m->directory.type);
+    EQUAL(nelqubat_record_closing(r), m->directory.closing);
+    EQUAL(nelqubat_record_tradable(r), m->directory.tradable);
+    EQUAL(nelqubat_record_variation(r), m->directory.variation);
+    SAME(nelqubat_record_symbol(r), m->symbol, sizeof m->symbol);
+    SAME(nelqubat_record_underlying(r), m->underlying, sizeof m->underlying);
+    SAME(nelqubat_record_reserved(r), m->reserved, sizeof m->reserved);
+}
+
+static void same_quote(const uint8_t *r, const struct plain_message *m)
+{
+    if (m->kind == PLAIN_BOTH_SHORT) {
+        EQUAL(nelqubat_record_letter(r), 'q');
+        EQUAL(nelqubat_record_code(r), m->both_short.condition);
+        same_short(nelqubat_record_bid(r), &m->both_short.bid);
+        same_short(nelqubat_record_ask(r), &m->both_short.ask);
+    } else if (m->kind == PLAIN_BOTH_LONG) {
+        EQUAL(nelqubat_record_letter(r), 'Q');
+        EQUAL(nelqubat_record_code(r), m->both_long.condition);
+        same_long(nelqubat_record_bid(r), &m->both_long.bid);
+        same_long(nelqubat_record_ask(r), &m->both_long.ask);
+    } else if (m->kind == PLAIN_ONE_SHORT) {
+        same_one_short(r, &m->one_short);
+    } else {
+        same_one_long(r, &m->one_long);
+    }
+}
+
+/* A record that the library made, and the plain reader's message. */
+static void same_message(const uint8_t *r, const struct plain_message *m)
+{
+    EQUAL(nelqubat_record_tracking(r), m->tracking);
+    EQUAL(nelqubat_record_id(r), m->id);
+    EQUAL(nelqubat_record_time(r), m->time);
+    EQUAL(nelqubat_record_number(r), m->kind == PLAIN_REPLAY_END ? m->number : 0);
+    if (m->kind == PLAIN_SYSTEM_EVENT) {
+        EQUAL(nelqubat_record_letter(r), 'S');
+        EQUAL(nelqubat_record_code(r), m->code);
+    } else if (m->kind == PLAIN_STATE) {
+        EQUAL(nelqubat_record_letter(r), 'H');
+        EQUAL(nelqubat_record_code(r), m->state);
+    } else if (m->kind == PLAIN_REPLAY_END) {
+        EQUAL(nelqubat_record_letter(r), 'M');
+    } else if (m->kind == PLAIN_DIRECTORY) {
+        same_directory(r, m);
+    } else {
+        same_quote(r, m);
+    }
+}
+
+static void test_records(void)
+{
+    struct dice d = dice_seeded(2);
+    for (unsigned i = 0; i < 2000; i++) {
+        uint8_t bytes[PLAIN_MESSAGE_BYTES], out[NELQUBAT_MESSAGE_BYTES];
+        struct plain_message m;
+        size_t n;
+        uint32_t answer;
+        make_any_message(&d, &m);
+        EQUAL(plain_write(&m, bytes, sizeof bytes, &n), 0);
+        EQUAL(nelqubat_read(bytes, n, record, sizeof record), NELQUBAT_DONE);
+        same_message(record, &m);
+        answer = nelqubat_write(record, sizeof record, out, sizeof out);
+        EQUAL(nelqubat_refusal(answer), NELQUBAT_DONE);
+        EQUAL(nelqubat_written(answer), n);
+    }
+}
+
+/* Rows, handles and answers, over sessions. */
+
+static void same_row_side(struct nelqubat_side s, const uint8_t *at)
+{
+    EQUAL(s.market, get_number(at, 4));
+    EQUAL(s.price, get_number(at + 4, 4));
+    EQUAL(s.price_on_wire, get_number(at + 4, 4));
+    EQUAL(s.size, get_number(at + 8, 4));
+    EQUAL(s.customer, get_number(at + 12, 4));
+    EQUAL(s.professional, get_number(at + 16, 4));
+}
+
+static void same_row(const uint8_t *row, const uint8_t *plain)
+{
+    EQUAL(nelqubat_row_id(row), get_number(plain + ROW_ID, 4));
+    SAME(nelqubat_row_symbol(row), plain + ROW_SYMBOL, 8);
+    EQUAL(nelqubat_row_year(row), plain[ROW_YEAR]);
+    EQUAL(nelqubat_row_month(row), plain[ROW_MONTH]);
+    EQUAL(nelqubat_row_day(row), plain[ROW_DAY]);
+    EQUAL(nelqubat_row_strike(row), get_number(plain + ROW_STRIKE, 4));
+    EQUAL(nelqubat_row_type(row), plain[ROW_TYPE]);
+    SAME(nelqubat_row_underlying(row), plain + ROW_UNDERLYING, 13);
+    EQUAL(nelqubat_row_closing(row), plain[ROW_CLOSING]);
+    EQUAL(nelqubat_row_tradable(row), plain[ROW_TRADABLE]);
+    EQUAL(nelqubat_row_variation(row), plain[ROW_VARIATION]);
+    SAME(nelqubat_row_reserved(row), plain + ROW_RESERVED, 16);
+    EQUAL(nelqubat_row_state(row), plain[ROW_STATE]);
+    EQUAL(nelqubat_row_condition(row), plain[ROW_CONDITION]);
+    EQUAL(nelqubat_row_has_bid(row), plain[ROW_SIDES] % 2 == 1);
+    EQUAL(nelqubat_row_has_ask(row), plain[ROW_SIDES] / 2 == 1);
+    same_row_side(nelqubat_row_bid(row), plain + ROW_BID);
+    same_row_side(nelqubat_row_ask(row), plain + ROW_ASK);
+    EQUAL(nelqubat_row_tracking(row), get_number(plain + ROW_TRACKING, 2));
+    EQUAL(nelqubat_row_time(row), get_number(plain + ROW_TIME, 8));
+}
+
+static void same_handle(void)
+{
+    EQUAL(nelqubat_handle_next(handle), reader.next);
+    EQUAL(nelqubat_handle_live(handle), reader.live);
+    EQUAL(nelqubat_handle_rows(handle), reader.rows);
+    EQUAL(nelqubat_handle_held(handle), reader.used);
+    SAME(nelqubat_handle_session(handle), reader.session, sizeof reader.session);
+    EQUAL(nelqubat_handle_known(handle), reader.known);
+    EQUAL(nelqubat_handle_logged_in(handle), reader.logged_in);
+    EQUAL(nelqubat_handle_ended(handle), reader.ended);
+    EQUAL(nelqubat_handle_refusal(handle), reader.refusal);
+    EQUAL(nelqubat_handle_event(handle), reader.event);
+    SAME(nelqubat_handle_packet(handle), reader.held, reader.used);
+}
+
+static unsigned kind_of(const struct plain_answer *a)
+{
+    static const unsigned events[] = {
+        [PLAIN_MESSAGE] = NELQUBAT_MESSAGE, [PLAIN_ACCEPTED] = NELQUBAT_LOGIN,
+        [PLAIN_REJECTED] = NELQUBAT_REJECTED, [PLAIN_HEARTBEAT] = NELQUBAT_HEARTBEAT,
+        [PLAIN_SESSION_END] = NELQUBAT_END, [PLAIN_SKIPPED] = NELQUBAT_SKIPPED};
+    if (a->kind == PLAIN_EVENT)
+        return events[a->event];
+    return a->kind == PLAIN_MORE ? NELQUBAT_MORE : a->kind == PLAIN_ENDED ? NELQUBAT_ENDED : NELQUBAT_REFUSED;
+}
+
+static void same_answer(uint32_t answer, const struct plain_answer *a)
+{
+    EQUAL(nelqubat_kind(answer), kind_of(a));
+    EQUAL(nelqubat_taken(answer), a->taken);
+    EQUAL(nelqubat_refusal(answer), a->refusal);
+    EQUAL(nelqubat_is_event(answer), a->kind == PLAIN_EVENT);
+    if (a->kind != PLAIN_EVENT)
+        return;
+    if (a->event == PLAIN_MESSAGE)
+        same_message(event, &a->message);
+    if (a->event == PLAIN_REJECTED)
+        EQUAL(nelqubat_rejected_reason(event), a->reason);
+    if (a->event != PLAIN_ACCEPTED)
+        return;
+    EQUAL(nelqubat_login_number(event), reader.next);
+    SAME(nelqubat_login_session(event), a->session, sizeof a->session);
+}
+
+static void step_both(const uint8_t *bytes, size_t n)
+{
+    struct plain_answer a;
+    do {
+        uint32_t answer = step(bytes, n);
+        plain_step(&reader, plain_table, sizeof plain_table, bytes, n, &a);
+        same_answer(answer, &a);
+        same_handle();
+        bytes += a.taken;
+        n -= a.taken;
+    } while (a.kind == PLAIN_EVENT);
+}
+
+/* What the session left, saved and restored: a session known, and no login. */
+static void restore_both(void)
+{
+    uint32_t answer = nelqubat_save(handle, sizeof handle, table, sizeof table, image, sizeof image);
+    size_t n;
+    EQUAL(plain_save(&reader, plain_table, sizeof plain_table, image, sizeof image, &n), 0);
+    EQUAL(nelqubat_written(answer), n);
+    EQUAL(nelqubat_restore(handle, sizeof handle, table, sizeof table, image, n), NELQUBAT_DONE);
+    EQUAL(plain_restore(&reader, plain_table, sizeof plain_table, image, n), 0);
+    same_handle();
+}
+
+static void test_sessions(void)
+{
+    static uint8_t space[1 << 17];
+    for (uint64_t seed = 0; seed < 40; seed++) {
+        struct dice d = dice_seeded(seed);
+        struct session_plan plan = random_plan(&d);
+        struct bytes s = {space, 0, sizeof space};
+        plan.first = 1;
+        plan.instruments = 1 + plan.instruments % 12;
+        make_session(&d, &plan, &s);
+        if (seed % 4 == 3)
+            damage_session(&d, (enum session_damage)dice_below(&d, SESSION_DAMAGES), &s);
+        start_both();
+        step_both(s.at, dice_below(&d, s.n + 1));
+        start_both();
+        step_both(s.at, s.n);
+        for (size_t k = 0; k < reader.rows; k++)
+            same_row(nelqubat_row(table, k), plain_table + k * PLAIN_ROW_BYTES);
+        restore_both();
+    }
+    start_both();
+    step_both(LITERAL("\x00\x02" "JA"));
+}
+
+/* Refusals: each one by its cause, with its number in document 01 and a word of
+ * the phrase for it. */
+
+#define LOGIN "\x00\x1F" "ASESSION001                   1"
+#define HEAD "\x00\x01" "\x00\x00\x1F\x1A\xD6\x35\xBD\x15"
+#define ID7 "\x00\x00\x00\x07"
+#define FIELDS "IBM     " "\x1A\x0C\x12" "\x00\x0F\x42\x40" "CIBM          NYS                "
+#define DIRECTORY "\x00\x40" "Sm" HEAD ID7 FIELDS
+#define BID "\x00\x1B" "Sb" HEAD ID7 " " "\0\1\0\1\0\1\0\1\0\1"
+
+static void refused(unsigned got, unsigned constant, unsigned number, const char *word)
+{
+    EQUAL(got, number);
+    EQUAL(constant, number);
+    EQUAL(strstr(nelqubat_refusal_name(number), word) != NULL, 1);
+}
+
+static unsigned packets(const uint8_t *bytes, size_t n)
+{
+    uint32_t answer;
+    nelqubat_start(handle, sizeof handle, table, sizeof table);
+    do {
+        answer = step(bytes, n);
+        bytes += nelqubat_taken(answer);
+        n -= nelqubat_taken(answer);
+    } while (nelqubat_is_event(answer));
+    return nelqubat_refusal(answer);
+}
+
+static void test_packet_refusals(void)
+{
+    refused(packets(LITERAL("\x00\x00")), NELQUBAT_REFUSED_LENGTH, 1, "length");
+    refused(packets(LITERAL("\x00\x01" "X")), NELQUBAT_REFUSED_LETTER, 2, "packet letter");
+    refused(packets(LITERAL("\x00\x01" "Z")), NELQUBAT_REFUSED_PLACE, 3, "place");
+    refused(packets(LITERAL("\x00\x01" "J")), NELQUBAT_REFUSED_FORM, 4, "form");
+    refused(packets(LITERAL("\x00\x1F" "ASESSION001                   2")), NELQUBAT_REFUSED_LOGIN, 5, "login");
+    packets(LITERAL(LOGIN));
+    nelqubat_set(handle + NELQUBAT_HANDLE_NEXT, 8, PLAIN_MAX_NUMBER);
+    refused(nelqubat_refusal(step(LITERAL("\x00\x01" "S"))), NELQUBAT_REFUSED_NUMBERS, 6, "number is left");
+    refused(packets(LITERAL(LOGIN "\x00\x01" "S")), NELQUBAT_REFUSED_MESSAGE, 10, "message letter");
+    refused(packets(LITERAL(LOGIN "\x00\x02" "SH")), NELQUBAT_REFUSED_MESSAGE_LENGTH, 11, "length");
+    refused(packets(LITERAL(LOGIN "\x00\x11" "SH" HEAD ID7 "Z")), NELQUBAT_REFUSED_FIELD, 12, "field");
+    refused(packets(LITERAL(LOGIN "\x00\x11" "SH" HEAD ID7 "T")), NELQUBAT_REFUSED_NO_ROW, 13, "no row");
+    refused(packets(LITERAL(LOGIN DIRECTORY BID)), NELQUBAT_REFUSED_NOT_TRADING, 14, "not trade");
+    refused(packets(LITERAL(LOGIN DIRECTORY "\x00\x40" "Sm" HEAD ID7 "IBN     " "\x1A\x0C\x12" "\x00\x0F\x42\x40"
+                            "CIBM          NYS                ")), NELQUBAT_REFUSED_FIXED_FIELD, 15, "fixed field");
+}
+
+static void test_full_table(void)
+{
+    uint8_t packet[] = DIRECTORY;
+    uint32_t answer = 0;
+    packets(LITERAL(LOGIN));
+    for (size_t k = 0; k <= NELQUBAT_MAX_ROWS; k++) {
+        set_number(packet + 14, 4, 100 + k);
+        EQUAL(nelqubat_refusal(answer), NELQUBAT_DONE);
+        answer = step(packet, sizeof packet - 1);
+    }
+    refused(nelqubat_refusal(answer), NELQUBAT_REFUSED_FULL, 16, "full");
+}
+
+static unsigned restored(size_t n)
+{
+    return nelqubat_refusal(nelqubat_restore(handle, sizeof handle, table, sizeof table, image, n));
+}
+
+static void test_call_refusals(void)
+{
+    struct bytes sealed = {image, NELQUBAT_BLOCK_BYTES, sizeof image};
+    uint32_t answer;
+    refused(nelqubat_start(handle, sizeof handle - 1, table, sizeof table), NELQUBAT_REFUSED_MEMORY, 20, "memory");
+    start_both();
+    answer = nelqubat_save(handle, sizeof handle, table, sizeof table, image, sizeof image);
+    EQUAL(nelqubat_written(answer), NELQUBAT_BLOCK_BYTES);
+    refused(restored(1), NELQUBAT_REFUSED_IMAGE_LENGTH, 21, "length");
+    image[100] = 1;
+    refused(restored(sealed.n), NELQUBAT_REFUSED_CHECK, 22, "check");
+    image[1] = 1;
+    seal_image(&sealed);
+    refused(restored(sealed.n), NELQUBAT_REFUSED_HEAD, 23, "head");
+    image[1] = 0;
+    seal_image(&sealed);
+    refused(restored(sealed.n), NELQUBAT_REFUSED_CONTENTS, 24, "contents");
+    answer = nelqubat_save(handle, sizeof handle, table, sizeof table, image, 511);
+    refused(nelqubat_refusal(answer), NELQUBAT_REFUSED_SHORT, 25, "too short");
+    memset(record, 0, sizeof record);
+    answer = nelqubat_write(record, sizeof record, image, sizeof image);
+    refused(nelqubat_refusal(answer), NELQUBAT_REFUSED_RECORD, 26, "record");
+}
+
+static void test_names(void)
+{
+    const char *none = "no refusal has this number";
+    for (unsigned n = 0; n < 300; n++) {
+        bool is_number = n <= 6 || (n >= 10 && n <= 16) || (n >= 20 && n <= 26);
+        EQUAL(strcmp(nelqubat_refusal_name(n), none) != 0, is_number);
+    }
+    EQUAL(strcmp(nelqubat_refusal_name(NELQUBAT_DONE), "done"), 0);
+}
+
+int main(void)
+{
+    test_sizes();
+    test_numbers();
+    test_records();
+    test_sessions();
+    test_packet_refusals();
+    test_full_table();
+    test_call_refusals();
+    test_names();
+    printf("header: all %lu checks hold\n", checks);
+    return fflush(stdout) == 0 ? 0 : 1;
+}
