@@ -19,8 +19,23 @@
  * The host lends all memory, each as a pointer and a count of bytes, and the
  * library keeps nothing between calls. A pointer must not be null, even where
  * the count is 0. Memories that are lent to one call must not overlap, except
- * that memory which is only read may be the same. Calls that share no memory
- * may run at the same time. Nothing is allocated and nothing is printed.
+ * that memory which is only read may be the same. Nothing is allocated and
+ * nothing is printed.
+ *
+ * Stack: measured by `host/run stack`, a step takes up to 2,600 bytes and every
+ * other call up to 800; NELQUBAT_STACK_BYTES is more than any was seen to take.
+ *
+ * Threads: calls that share no memory may run at the same time. While a step,
+ * a start or a restore runs, no other thread may read or write the memory that
+ * it was lent: a row changes byte by byte, and one that is read meanwhile may be
+ * blended. A screen gets a copy, made by the reading thread between two calls:
+ *
+ *   a = nelqubat_step(...);
+ *   if (the row at k is on the screen) {
+ *       lock the screen's copy;
+ *       memcpy(copy, nelqubat_row(table, k), NELQUBAT_ROW_BYTES);
+ *       unlock it;
+ *   }
  *
  * Numbers in lent memory are unsigned and big-endian, as on the wire.
  */
@@ -46,7 +61,8 @@ enum {
     NELQUBAT_MESSAGE_BYTES = 63,   /* the longest message, a directory */
     NELQUBAT_PACKET_BYTES = 258,   /* the longest packet, its length included */
     NELQUBAT_LINE_BYTES = 80,      /* more than any line of the listing */
-    NELQUBAT_SESSION_BYTES = 10
+    NELQUBAT_SESSION_BYTES = 10,
+    NELQUBAT_STACK_BYTES = 4096    /* of stack that a call needs at most */
 };
 
 /* Why a call is refused. 1 to 6 and 10 to 16 come from a packet and stand in

@@ -1,0 +1,158 @@
+/* Measures how much stack each call of the library needs: the call is made on
+ * a stack that was painted before, and what it left unpainted is counted. The
+ * most over many inputs is printed; the header says no less than that. */
+#define _XOPEN_SOURCE 700
+
+#include "edges.h"
+#include "generate.h"
+#include "nelqubat.h"
+#include "oracle.h"
+
+#include <stdio.h>
+#include <string.h>
+#include <ucontext.h>
+
+enum { STACK = 1 << 14, PAINT = 0x5A, ROUNDS = 200 };
+
+enum call { NONE, START, STEP, SAVE, RESTORE, READ, WRITE, LINE, CALLS };
+
+static const char *const names[CALLS] = {
+    "nothing", "start", "step", "save", "restore", "read", "write", "line"};
+
+static uint8_t handle[NELQUBAT_HANDLE_BYTES], table[NELQUBAT_TABLE_BYTES];
+static uint8_t event[NELQUBAT_RECORD_BYTES], record[NELQUBAT_RECORD_BYTES];
+static uint8_t image[NELQUBAT_IMAGE_BYTES + NELQUBAT_BLOCK_BYTES];
+static uint8_t stack[STACK];
+static size_t most[CALLS];
+
+/* The call to make, its input, and its answer. */
+static struct {
+    enum call call;
+    const uint8_t *input;
+    size_t n;
+    uint32_t answer;
+} work;
+
+static void make_call(void)
+{
+    const uint8_t *in = work.input;
+    size_t n = work.n;
+    switch (work.call) {
+    case NONE:
+        break;
+    case START:
+        work.answer = nelqubat_start(handle, sizeof handle, table, sizeof table);
+        break;
+    case STEP:
+        work.answer = nelqubat_step(handle, sizeof handle, table, sizeof table, in, n, event, sizeof event);
+        break;
+    case SAVE:
+        work.answer = nelqubat_save(handle, sizeof handle, table, sizeof table, image, NELQUBAT_IMAGE_BYTES);
+        break;
+    case RESTORE:
+        work.answer = nelqubat_restore(handle, sizeof handle, table, sizeof table, in, n);
+        break;
+    case READ:
+        work.answer = nelqubat_read(in, n, record, sizeof record);
+        break;
+    case WRITE:
+        work.answer = nelqubat_write(in, n, image, NELQUBAT_MESSAGE_BYTES);
+        break;
+    default:
+        work.answer = nelqubat_line(handle, sizeof handle, table, sizeof table, n, image, NELQUBAT_LINE_BYTES);
+        break;
+    }
+}
+
+/* Makes the call on the painted stack; what is touched of it counts from its
+ * lowest byte that changed. */
+static uint32_t measure(enum call call, const uint8_t *input, size_t n)
+{
+    static ucontext_t here, there;
+    size_t left = 0;
+    memset(stack, PAINT, sizeof stack);
+    work.call = call;
+    work.input = input;
+    work.n = n;
+    getcontext(&there);
+    there.uc_stack.ss_sp = stack;
+    there.uc_stack.ss_size = sizeof stack;
+    there.uc_link = &here;
+    makecontext(&there, make_call, 0);
+    swapcontext(&here, &there);
+    while (left < sizeof stack && stack[left] == PAINT)
+        left++;
+    if (sizeof stack - left > most[call])
+        most[call] = sizeof stack - left;
+    return work.answer;
+}
+
+static void measure_session(struct dice *d, bool damaged)
+{
+    static uint8_t space[1 << 17];
+    struct bytes s = {space, 0, sizeof space - DAMAGE_ROOM};
+    struct session_plan plan = random_plan(d);
+    uint32_t answer;
+    plan.first = 1;
+    plan.packets %= 40;
+    plan.instruments = 1 + plan.instruments % 16;
+    make_session(d, &plan, &s);
+    s.room = sizeof space;
+    if (damaged)
+        damage_session(d, (enum session_damage)dice_below(d, SESSION_DAMAGES), &s);
+    measure(START, NULL, 0);
+    for (size_t at = 0; at < s.n; at += nelqubat_taken(answer)) {
+        answer = measure(STEP, s.at + at, 1 + make_piece_size(d, s.n - at - 1));
+        if (nelqubat_kind(answer) >= NELQUBAT_ENDED)
+            break;
+    }
+    measure(SAVE, NULL, 0);
+    for (size_t k = 0; k < 4; k++)
+        measure(LINE, NULL, k);
+    measure(LINE, NULL, nelqubat_handle_rows(handle) + 1);
+}
+
+static void measure_image(struct dice *d, bool damaged)
+{
+    struct bytes s = {image, 0, sizeof image};
+    make_image(d, &s);
+    if (damaged)
+        damage_image(d, (enum image_damage)dice_below(d, IMAGE_DAMAGES), &s);
+    measure(RESTORE, s.at, s.n);
+    measure(SAVE, NULL, 0);
+}
+
+static void measure_message(struct dice *d, bool damaged)
+{
+    uint8_t bytes[80], packed[NELQUBAT_RECORD_BYTES];
+    struct plain_message m;
+    measure(READ, bytes, make_message_bytes(d, bytes, sizeof bytes));
+    make_any_message(d, &m);
+    oracle_pack_record(&m, packed);
+    if (damaged)
+        edge_record(d, packed);
+    measure(WRITE, packed, sizeof packed);
+}
+
+int main(void)
+{
+    size_t greatest = 0;
+    measure(NONE, NULL, 0);
+    for (uint64_t seed = 0; seed < ROUNDS; seed++) {
+        struct dice d = dice_seeded(seed);
+        measure_session(&d, seed % 2 == 1);
+        measure_image(&d, seed % 2 == 1);
+        for (unsigned i = 0; i < 20; i++)
+            measure_message(&d, i % 2 == 1);
+    }
+    printf("stack:");
+    for (unsigned c = START; c < CALLS; c++) {
+        size_t n = most[c] - most[NONE];
+        printf(" %s %zu", names[c], n);
+        greatest = n > greatest ? n : greatest;
+    }
+    printf(" bytes; the header says %d\n", NELQUBAT_STACK_BYTES);
+    if (greatest > NELQUBAT_STACK_BYTES)
+        fprintf(stderr, "stack: a call needs more than the header says\n");
+    return greatest > NELQUBAT_STACK_BYTES;
+}
