@@ -1,0 +1,116 @@
+/* Reads a session on standard input and prints a row whenever a message
+ * changes it: the message's number and letter, and then what the row says.
+ *
+ *   rows [ID...] < SESSION      all rows, or those of these instruments */
+#include "nelqubat.h"
+
+#include <inttypes.h>
+#include <stdio.h>
+#include <stdlib.h>
+
+static uint8_t handle[NELQUBAT_HANDLE_BYTES], table[NELQUBAT_TABLE_BYTES];
+
+enum { NO_ROW = UINT16_MAX };
+
+/* The place of the row for an id, the first among those in use, or NO_ROW. */
+static uint32_t find_row(uint32_t id)
+{
+    uint32_t rows = (uint32_t)nelqubat_handle_rows(handle);
+    for (uint32_t k = 0; k < rows; k++)
+        if (nelqubat_row_id(nelqubat_row(table, k)) == id)
+            return k;
+    return NO_ROW;
+}
+
+/* A side as price and size; a side that was never quoted as a dash. */
+static void print_side(int is_seen, struct nelqubat_side side)
+{
+    if (is_seen)
+        printf(" %" PRIu32 ".%04" PRIu32 "x%" PRIu32, side.price / 10000, side.price % 10000, side.size);
+    else
+        printf(" -");
+}
+
+static void print_row(const uint8_t *row)
+{
+    uint8_t state = nelqubat_row_state(row);
+    printf("%" PRIu32 " %.8s %02u-%02u-%02u %c %" PRIu32 ".%04" PRIu32 " %c", nelqubat_row_id(row),
+           (const char *)nelqubat_row_symbol(row), nelqubat_row_year(row), nelqubat_row_month(row),
+           nelqubat_row_day(row), nelqubat_row_type(row), nelqubat_row_strike(row) / 10000,
+           nelqubat_row_strike(row) % 10000, state == 0 ? '-' : state);
+    print_side(nelqubat_row_has_bid(row), nelqubat_row_bid(row));
+    print_side(nelqubat_row_has_ask(row), nelqubat_row_ask(row));
+    putchar('\n');
+}
+
+static int is_wanted(uint32_t id, const uint32_t *ids, int count)
+{
+    for (int i = 0; i < count; i++)
+        if (ids[i] == id)
+            return 1;
+    return count == 0;
+}
+
+/* A message changed its row before the step came back: S and M have none. */
+static void show(const uint8_t *record, const uint32_t *ids, int count)
+{
+    uint8_t letter = nelqubat_record_letter(record);
+    uint32_t id = nelqubat_record_id(record), k;
+    if (letter == 'S' || letter == 'M' || !is_wanted(id, ids, count))
+        return;
+    k = find_row(id);
+    if (k == NO_ROW)
+        return;
+    printf("%" PRIu64 " %c ", nelqubat_handle_next(handle) - 1, letter);
+    print_row(nelqubat_row(table, k));
+}
+
+/* Steps through one piece; 0 once the reader takes no more. */
+static int feed(const uint8_t *piece, size_t n, const uint32_t *ids, int count)
+{
+    uint8_t event[NELQUBAT_RECORD_BYTES];
+    uint32_t answer;
+    do {
+        answer = nelqubat_step(handle, sizeof handle, table, sizeof table, piece, n, event,
+                               sizeof event);
+        piece += nelqubat_taken(answer);
+        n -= nelqubat_taken(answer);
+        if (nelqubat_kind(answer) == NELQUBAT_MESSAGE)
+            show(event, ids, count);
+    } while (nelqubat_is_event(answer));
+    return nelqubat_kind(answer) == NELQUBAT_MORE;
+}
+
+static int finish(void)
+{
+    unsigned refusal = nelqubat_handle_refusal(handle);
+    if (ferror(stdin) || fflush(stdout) != 0 || ferror(stdout)) {
+        perror("rows");
+        return 1;
+    }
+    if (refusal != 0)
+        fprintf(stderr, "rows: message %" PRIu64 ": %s\n", nelqubat_handle_next(handle),
+                nelqubat_refusal_name(refusal));
+    return refusal != 0;
+}
+
+int main(int argc, char **argv)
+{
+    static uint8_t piece[4096];
+    uint32_t ids[NELQUBAT_MAX_ROWS];
+    size_t n;
+    for (int i = 1; i < argc; i++) {
+        char *end;
+        unsigned long id = strtoul(argv[i], &end, 10);
+        if (i > NELQUBAT_MAX_ROWS || argv[i][0] < '0' || argv[i][0] > '9' || *end != 0 || id > UINT32_MAX) {
+            fprintf(stderr, "usage: rows [ID...] < SESSION\n");
+            return 2;
+        }
+        ids[i - 1] = (uint32_t)id;
+    }
+    nelqubat_start(handle, sizeof handle, table, sizeof table);
+    do
+        n = fread(piece, 1, sizeof piece, stdin);
+    while (n != 0 && feed(piece, n, ids, argc - 1));
+    return finish();
+}
