@@ -2,8 +2,8 @@
  *
  * The library reads the server's SoupBinTCP bytes piece by piece, keeps a
  * table of at most 256 instruments, saves and restores that table, and reads
- * and writes single messages. It is built for x86-64 and is linked as
- * libabi.a.
+ * and writes single messages. It is built for x86-64. `host/run install PREFIX`
+ * installs it, and `pkg-config --cflags --libs nelqubat` then says how to link.
  *
  *   uint8_t handle[NELQUBAT_HANDLE_BYTES], table[NELQUBAT_TABLE_BYTES];
  *   uint8_t event[NELQUBAT_RECORD_BYTES];
@@ -48,6 +48,10 @@
 #ifdef __cplusplus
 extern "C" {
 #endif
+
+/* Raised with every change of a call, an answer or a layout that a program can
+ * see. */
+#define NELQUBAT_VERSION 1
 
 /* Sizes, in bytes. */
 enum {
