@@ -1,0 +1,358 @@
+"""Reads sessions of the ISE, GEMX and MRX Top of Market feed by the proved library, with ctypes alone.
+
+    import nelqubat
+
+    reader = nelqubat.Reader()
+    for event in reader.read("samples/open.soup"):
+        if event.kind == "message" and event.message.id:
+            print(reader.row(event.message.id))
+    image = reader.save()
+    later = nelqubat.Reader.restore(image)
+
+What a call refuses is raised as Refused, with its number in document 01. Prices are whole numbers of ten-thousandths of a dollar.
+The library is the shared object that NELQUBAT_SO names, or libnelqubat.so beside this file or in target/host, where
+`host/run python` builds it (x86-64).
+"""
+
+import ctypes
+import os
+from typing import NamedTuple, Optional
+
+HANDLE_BYTES, TABLE_BYTES, RECORD_BYTES = 305, 31744, 112
+ROW_BYTES, IMAGE_BYTES, LINE_BYTES, MESSAGE_BYTES = 124, 33280, 80, 63
+PIECE_BYTES = 65536
+KINDS = ("more", "login", "rejected", "message", "heartbeat", "end", "skipped", "ended", "refused")
+REFUSALS = {
+    1: "packet length is 0 or over 256", 2: "packet letter is not known", 3: "packet in the wrong place",
+    4: "packet has the wrong form", 5: "login for another session or number", 6: "no message number is left",
+    10: "message letter is not known", 11: "message has the wrong length", 12: "message field outside its list or range",
+    13: "no row has this id", 14: "instrument does not trade", 15: "directory changes a fixed field", 16: "table is full",
+    20: "memory has the wrong length or is no handle", 21: "image length is wrong", 22: "block check is wrong",
+    23: "block head is wrong", 24: "contents break the row or block rules", 25: "output memory is too short",
+    26: "record breaks its field rules"}
+
+
+class Refused(Exception):
+    """A call was refused; `number` is that of document 01."""
+
+    def __init__(self, number):
+        super().__init__(f"refused {number}: {REFUSALS.get(number, 'no refusal has this number')}")
+        self.number = number
+
+
+class Side(NamedTuple):
+    """One side of a quote. A price is in ten-thousandths of a dollar whatever the message was; `price_on_wire` is what it had."""
+
+    market: int
+    price: int
+    size: int
+    customer: int
+    professional: int
+    price_on_wire: int
+
+
+class SideBytes(ctypes.BigEndianStructure):
+    _pack_ = 1
+    _fields_ = [(name, ctypes.c_uint32) for name in ("market", "price", "size", "customer", "professional")]
+
+    def side(self, unit):
+        return Side(self.market, self.price * unit, self.size, self.customer, self.professional, self.price)
+
+
+def _text(count):
+    return ctypes.c_uint8 * count
+
+
+class _Fields(ctypes.BigEndianStructure):
+    """What the fields of rows and records have in common: bytes that a person reads as letters and texts."""
+
+    def _letter(self, name):
+        value = getattr(self, name)
+        return chr(value) if value else ""
+
+    def _name(self, name):
+        return bytes(getattr(self, name)).rstrip(b" ").decode("ascii", "replace")
+
+
+class RecordBytes(_Fields):
+    """A message's record, place by place."""
+
+    _pack_ = 1
+    _fields_ = [
+        ("letter", ctypes.c_uint8), ("code", ctypes.c_uint8), ("tracking", ctypes.c_uint16), ("id", ctypes.c_uint32),
+        ("time", ctypes.c_uint64), ("number", ctypes.c_uint64), ("bid", SideBytes), ("ask", SideBytes),
+        ("strike", ctypes.c_uint32), ("year", ctypes.c_uint8), ("month", ctypes.c_uint8), ("day", ctypes.c_uint8),
+        ("type", ctypes.c_uint8), ("closing", ctypes.c_uint8), ("tradable", ctypes.c_uint8), ("variation", ctypes.c_uint8),
+        ("symbol", _text(8)), ("underlying", _text(13)), ("reserved", _text(16))]
+
+
+class RowBytes(_Fields):
+    """A row of the table, place by place."""
+
+    _pack_ = 1
+    _fields_ = [
+        ("id", ctypes.c_uint32), ("symbol", _text(8)), ("year", ctypes.c_uint8), ("month", ctypes.c_uint8),
+        ("day", ctypes.c_uint8), ("strike", ctypes.c_uint32), ("type", ctypes.c_uint8), ("underlying", _text(13)),
+        ("closing", ctypes.c_uint8), ("tradable", ctypes.c_uint8), ("variation", ctypes.c_uint8), ("reserved", _text(16)),
+        ("state", ctypes.c_uint8), ("condition", ctypes.c_uint8), ("sides", ctypes.c_uint8), ("gap", ctypes.c_uint8),
+        ("bid", SideBytes), ("ask", SideBytes), ("tracking", ctypes.c_uint16), ("time", ctypes.c_uint64), ("tail", _text(18))]
+
+
+class HandleBytes(ctypes.BigEndianStructure):
+    """A handle, place by place."""
+
+    _pack_ = 1
+    _fields_ = [
+        ("next", ctypes.c_uint64), ("live", ctypes.c_uint64), ("rows", ctypes.c_uint64), ("held", ctypes.c_uint64),
+        ("session", _text(10)), ("known", ctypes.c_uint8), ("logged_in", ctypes.c_uint8), ("ended", ctypes.c_uint8),
+        ("refusal", ctypes.c_uint8), ("event", ctypes.c_uint8), ("packet", _text(258))]
+
+
+class Directory(NamedTuple):
+    """What a directory says of an instrument; `year` has the last two digits."""
+
+    symbol: str
+    year: int
+    month: int
+    day: int
+    strike: int
+    type: str
+    underlying: str
+    closing: str
+    tradable: str
+    variation: str
+    reserved: bytes
+
+
+class Row(NamedTuple):
+    """A copy of a row; `state` is "" before any, a side that was never quoted is None."""
+
+    id: int
+    directory: Directory
+    state: str
+    condition: str
+    bid: Optional[Side]
+    ask: Optional[Side]
+    tracking: int
+    time: int
+
+
+class Message(NamedTuple):
+    """A message. What its letter lacks is 0, "" or None; `code` is event code, state or condition."""
+
+    letter: str
+    code: str
+    tracking: int
+    id: int
+    time: int
+    number: int
+    bid: Optional[Side]
+    ask: Optional[Side]
+    directory: Optional[Directory]
+    record: bytes
+
+
+class Event(NamedTuple):
+    """An event: kind is login, rejected, message, heartbeat, end or skipped. A login has its number and session."""
+
+    kind: str
+    message: Optional[Message] = None
+    number: int = 0
+    session: bytes = b""
+    reason: int = 0
+
+
+def _directory(b):
+    return Directory(b._name("symbol"), b.year, b.month, b.day, b.strike, b._letter("type"), b._name("underlying"),
+                     b._letter("closing"), b._letter("tradable"), b._letter("variation"), bytes(b.reserved))
+
+
+def _row(data):
+    b = RowBytes.from_buffer_copy(data)
+    return Row(b.id, _directory(b), b._letter("state"), b._letter("condition"), b.bid.side(1) if b.sides & 1 else None,
+               b.ask.side(1) if b.sides & 2 else None, b.tracking, b.time)
+
+
+def _message(data):
+    b = RecordBytes.from_buffer_copy(data)
+    letter = chr(b.letter)
+    unit = 100 if letter in "qba" else 1
+    return Message(letter, b._letter("code"), b.tracking, b.id, b.time, b.number,
+                   b.bid.side(unit) if letter in "qQbB" else None, b.ask.side(unit) if letter in "qQaA" else None,
+                   _directory(b) if letter == "m" else None, bytes(data))
+
+
+def _find_library():
+    here = os.path.dirname(os.path.abspath(__file__))
+    places = (os.path.join(here, "libnelqubat.so"),
+              os.path.join(here, "..", "..", "target", "host", "libnelqubat.so"))
+    return os.environ.get("NELQUBAT_SO") or next((p for p in places if os.path.exists(p)), "libnelqubat.so")
+
+
+# How many memories each call is lent, a pointer and a count for each; a line also has its number before the last.
+_LENT = {"start": 2, "step": 4, "save": 3, "restore": 3, "read": 2, "write": 2}
+
+
+def _load():
+    library = ctypes.CDLL(_find_library())
+    memory = [ctypes.c_void_p, ctypes.c_size_t]
+    for name, count in _LENT.items():
+        getattr(library, "nelqubat_" + name).argtypes = memory * count
+        getattr(library, "nelqubat_" + name).restype = ctypes.c_uint32
+    library.nelqubat_line.argtypes = memory * 2 + [ctypes.c_size_t] + memory
+    library.nelqubat_line.restype = ctypes.c_uint32
+    for name, count in (("handle", HANDLE_BYTES), ("table", TABLE_BYTES), ("record", RECORD_BYTES)):
+        size = getattr(library, f"nelqubat_{name}_size")
+        size.restype = ctypes.c_size_t
+        if size() != count:
+            raise ImportError(f"the library's {name} has {size()} bytes, and this module's {count}")
+    return library
+
+
+_library = _load()
+
+
+def _memory(count):
+    return (ctypes.c_uint8 * max(count, 1))()
+
+
+def _lent(data):
+    """Bytes as memory that can be lent, with their count."""
+    memory = _memory(len(data))
+    ctypes.memmove(memory, bytes(data), len(data))
+    return memory, len(data)
+
+
+def _done(answer):
+    """The count that a call wrote; raises what it refused."""
+    if answer & 0xFF:
+        raise Refused(answer & 0xFF)
+    return answer >> 8
+
+
+def decode(data):
+    """The message of these bytes, with no packet around them."""
+    record = _memory(RECORD_BYTES)
+    _done(_library.nelqubat_read(*_lent(data), record, RECORD_BYTES))
+    return _message(record)
+
+
+def encode(message):
+    """The bytes of a message, from its record."""
+    out = _memory(MESSAGE_BYTES)
+    count = _done(_library.nelqubat_write(*_lent(message.record), out, MESSAGE_BYTES))
+    return bytes(out)[:count]
+
+
+class Reader:
+    """A reader of one session, with its table of at most 256 instruments. It is used by one thread at a time."""
+
+    def __init__(self):
+        self._handle, self._table = _memory(HANDLE_BYTES), _memory(TABLE_BYTES)
+        self._event = _memory(RECORD_BYTES)
+        self._both = (self._handle, HANDLE_BYTES, self._table, TABLE_BYTES)
+        _done(_library.nelqubat_start(*self._both))
+
+    @classmethod
+    def restore(cls, image):
+        """A reader from a saved table. It waits for a login with the saved session and next number."""
+        reader = cls()
+        _done(_library.nelqubat_restore(*reader._both, *_lent(image)))
+        return reader
+
+    def save(self):
+        """The saved table, as bytes."""
+        out = _memory(IMAGE_BYTES)
+        count = _done(_library.nelqubat_save(*self._both, out, IMAGE_BYTES))
+        return bytes(out)[:count]
+
+    def feed(self, piece):
+        """The events of a piece of the session, as they come. Raises Refused once all before it have been told."""
+        memory, count = _lent(piece)
+        at = 0
+        while True:
+            answer = _library.nelqubat_step(*self._both, ctypes.byref(memory, at), count - at, self._event, RECORD_BYTES)
+            kind = KINDS[answer >> 8 & 0xFF]
+            at += answer >> 16
+            if kind == "refused":
+                raise Refused(answer & 0xFF)
+            if kind in ("more", "ended"):
+                return
+            yield self._tell(kind)
+
+    def _tell(self, kind):
+        data = bytes(self._event)
+        if kind == "message":
+            return Event(kind, message=_message(data))
+        if kind == "login":
+            return Event(kind, number=int.from_bytes(data[:8], "big"), session=data[8:18])
+        return Event(kind, reason=data[0]) if kind == "rejected" else Event(kind)
+
+    def read(self, path):
+        """The events of a session file, until it runs out or the session ends."""
+        with open(path, "rb") as file:
+            while not self.ended:
+                piece = file.read(PIECE_BYTES)
+                if not piece:
+                    return
+                yield from self.feed(piece)
+
+    @property
+    def _head(self):
+        return HandleBytes.from_buffer_copy(self._handle)
+
+    @property
+    def next(self):
+        """The number of the next message that the table lacks."""
+        return self._head.next
+
+    @property
+    def live(self):
+        """The live number that the end of replay gave, or 0."""
+        return self._head.live
+
+    @property
+    def session(self):
+        """The session's name, or None before a login."""
+        head = self._head
+        return bytes(head.session) if head.known else None
+
+    @property
+    def ended(self):
+        return bool(self._head.ended)
+
+    @property
+    def refusal(self):
+        """The number of the refusal that stands, or 0."""
+        return self._head.refusal
+
+    @property
+    def event_code(self):
+        """The latest event code, or "" before any."""
+        value = self._head.event
+        return chr(value) if value else ""
+
+    def rows(self):
+        """Copies of all rows, in table order."""
+        return [_row(self._row_bytes(k)) for k in range(self._head.rows)]
+
+    def row(self, ident):
+        """A copy of the row for an instrument, or None."""
+        wanted = ident.to_bytes(4, "big")
+        for k in range(self._head.rows):
+            data = self._row_bytes(k)
+            if data[:4] == wanted:
+                return _row(data)
+        return None
+
+    def _row_bytes(self, k):
+        return ctypes.string_at(ctypes.addressof(self._table) + k * ROW_BYTES, ROW_BYTES)
+
+    def listing(self):
+        """The listing, as the program toplist prints it."""
+        out, lines = _memory(LINE_BYTES), []
+        while True:
+            count = _done(_library.nelqubat_line(*self._both, len(lines), out, LINE_BYTES))
+            if count == 0:
+                return "".join(lines)
+            lines.append(bytes(out)[:count].decode("ascii"))

@@ -1,0 +1,150 @@
+#!/usr/bin/env python3
+"""Tests the module: its layouts against the header, and what it reads against what the documents ask for."""
+
+import os
+import platform
+import re
+import sys
+import unittest
+
+HERE = os.path.dirname(os.path.abspath(__file__))
+ROOT = os.path.join(HERE, "..", "..")
+SAMPLES = os.path.join(ROOT, "samples")
+EXAMPLES = os.path.join(HERE, "..", "examples")
+HEADER = os.path.join(HERE, "..", "include", "nelqubat.h")
+
+if platform.machine() != "x86_64":
+    print(f"python: not run: this Python is for {platform.machine()}, the library for x86_64")
+    sys.exit()
+sys.dont_write_bytecode = True
+sys.path.insert(0, HERE)
+import nelqubat  # noqa: E402
+
+
+def text(*path):
+    with open(os.path.join(*path), "rb") as file:
+        return file.read()
+
+
+def header():
+    return text(HEADER).decode("ascii")
+
+
+def constants():
+    return {name: int(value) for name, value in re.findall(r"\bNELQUBAT_(\w+) = (\d+)", header())}
+
+
+def dollars(price):
+    return f"{price // 10000}.{price % 10000:04}"
+
+
+def changed(number, letter, row):
+    """A line as the example rows prints it."""
+    d = row.directory
+    sides = " ".join("-" if s is None else f"{dollars(s.price)}x{s.size}" for s in (row.bid, row.ask))
+    return (f"{number} {letter} {row.id} {d.symbol:8} {d.year:02}-{d.month:02}-{d.day:02} {d.type} {dollars(d.strike)} "
+            f"{row.state or '-'} {sides}\n")
+
+
+def login(session, number):
+    return b"\x00\x1fA" + session + b"%20d" % number
+
+
+class Layouts(unittest.TestCase):
+    def places(self, prefix, structure):
+        found = {name: value for name, value in constants().items() if name.startswith(prefix + "_")}
+        for name, _ in structure._fields_:
+            if name in ("gap", "tail"):
+                continue
+            self.assertEqual(getattr(structure, name).offset, found[f"{prefix}_{name.upper()}"], name)
+
+    def test_places(self):
+        self.places("ROW", nelqubat.RowBytes)
+        self.places("RECORD", nelqubat.RecordBytes)
+        self.places("HANDLE", nelqubat.HandleBytes)
+
+    def test_sizes(self):
+        for name in ("HANDLE", "TABLE", "RECORD", "ROW", "IMAGE", "LINE", "MESSAGE"):
+            self.assertEqual(getattr(nelqubat, name + "_BYTES"), constants()[name + "_BYTES"], name)
+        for structure, size in ((nelqubat.RowBytes, 124), (nelqubat.RecordBytes, 112), (nelqubat.HandleBytes, 305)):
+            self.assertEqual(nelqubat.ctypes.sizeof(structure), size)
+
+    def test_names(self):
+        for number, name in nelqubat.REFUSALS.items():
+            self.assertIn(f'"{name}"', header())
+            self.assertIn(number, constants().values())
+        for number, kind in enumerate(nelqubat.KINDS):
+            self.assertEqual(constants()[kind.upper()], number)
+
+
+class Sessions(unittest.TestCase):
+    def test_listings(self):
+        for name in ("open", "cut", "whole"):
+            reader = nelqubat.Reader()
+            events = sum(1 for _ in reader.read(os.path.join(SAMPLES, name + ".soup")))
+            self.assertGreater(events, 500)
+            self.assertEqual(reader.listing().encode(), text(SAMPLES, name + ".txt"))
+
+    def test_fault(self):
+        reader = nelqubat.Reader()
+        with self.assertRaises(nelqubat.Refused) as caught:
+            for _ in reader.read(os.path.join(SAMPLES, "fault.soup")):
+                pass
+        self.assertEqual((caught.exception.number, reader.refusal), (12, 12))
+        self.assertEqual(reader.listing().encode(), text(SAMPLES, "fault.txt"))
+
+    def test_rows(self):
+        reader, lines = nelqubat.Reader(), []
+        for event in reader.read(os.path.join(SAMPLES, "whole.soup")):
+            if event.kind == "message" and event.message.id in (40428, 40792, 41199):
+                lines.append(changed(reader.next - 1, event.message.letter, reader.row(event.message.id)))
+        self.assertEqual("".join(lines).encode(), text(EXAMPLES, "rows.txt"))
+        self.assertIsNone(reader.row(1))
+        self.assertEqual(len(reader.rows()), len(text(SAMPLES, "whole.txt").splitlines()) - 2)
+
+    def test_resumed(self):
+        session = text(SAMPLES, "whole.soup")
+        for stop in (1, 300, 610):
+            reader, at = nelqubat.Reader(), 0
+            while reader.next <= stop:
+                end = at + 2 + int.from_bytes(session[at:at + 2], "big")
+                list(reader.feed(session[at:end]))
+                at = end
+            again = nelqubat.Reader.restore(reader.save())
+            first = list(again.feed(login(again.session, again.next)))
+            self.assertEqual(first, [nelqubat.Event("login", number=reader.next, session=reader.session)])
+            list(again.feed(session[at:]))
+            self.assertTrue(again.ended)
+            self.assertEqual(again.listing().encode(), text(SAMPLES, "whole.txt"))
+
+    def test_images_refused(self):
+        for image, number in ((b"", 21), (bytes(511), 21), (b"\x01" * 512, 22)):
+            with self.assertRaises(nelqubat.Refused) as caught:
+                nelqubat.Reader.restore(image)
+            self.assertEqual(caught.exception.number, number)
+
+
+class Messages(unittest.TestCase):
+    # b of document 01's C10: 125 pennies, at the time of C8
+    BID = b"b" + bytes.fromhex("0102 00001f1ad635bd15 00000007") + b" " + bytes.fromhex("0001 007d 000a 0002 0003")
+
+    def test_round_trip(self):
+        message = nelqubat.decode(self.BID)
+        self.assertEqual((message.letter, message.code, message.tracking, message.id), ("b", " ", 258, 7))
+        self.assertEqual(message.time, 34200123456789)
+        self.assertEqual(message.bid, nelqubat.Side(1, 12500, 10, 2, 3, 125))
+        self.assertIsNone(message.ask)
+        self.assertEqual(nelqubat.encode(message), self.BID)
+
+    def test_refused(self):
+        for data, number in ((b"", 10), (b"b", 11), (self.BID.replace(b" ", b"?"), 12)):
+            with self.assertRaises(nelqubat.Refused) as caught:
+                nelqubat.decode(data)
+            self.assertEqual(caught.exception.number, number)
+
+
+if __name__ == "__main__":
+    result = unittest.main(exit=False, verbosity=0).result
+    if result.wasSuccessful():
+        print(f"python: all {result.testsRun} tests hold")
+    sys.exit(not result.wasSuccessful())
