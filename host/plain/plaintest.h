@@ -1,0 +1,103 @@
+/* What the tests of the plain reader share: how something is expected, a reader
+ * with its table, and packets written out by hand. */
+#ifndef PLAINTEST_H
+#define PLAINTEST_H
+
+#include "generate.h"
+#include "plain.h"
+
+#include <stdio.h>
+#include <string.h>
+
+/* An expectation that fails is named by its file and line, and ends the
+ * program. A function that is called with many cases gets the line of its call. */
+void expect_in(const char *file, int line, bool good, const char *what);
+void equal_in(const char *file, int line, uint64_t got, uint64_t wanted, const char *what);
+
+#define expect_at(line, good, what) expect_in(__FILE__, (line), (good), (what))
+#define equal_at(line, got, wanted, what) equal_in(__FILE__, (line), (got), (wanted), (what))
+#define EXPECT(good, what) expect_at(__LINE__, (good), (what))
+#define EQUAL(got, wanted, what) \
+    equal_at(__LINE__, (uint64_t)(got), (uint64_t)(wanted), (what))
+
+/* Bytes of a literal, and their count. */
+#define LITERAL(text) (const uint8_t *)(text), sizeof(text) - 1
+
+/* A reader with its table. */
+struct bench {
+    struct plain_reader r;
+    uint8_t table[PLAIN_TABLE_BYTES];
+};
+
+/* A fresh reader over a table that is not zero. */
+void start(struct bench *b);
+
+struct plain_answer step(struct bench *b, const uint8_t *piece, size_t n);
+
+/* Steps through accepted packets that fill the piece exactly. */
+void feed(struct bench *b, const uint8_t *piece, size_t n);
+
+void expect_row(const struct bench *b, size_t k, const uint8_t *row, size_t n);
+
+/* Fills the table by hand-made rows with ids 1000 on. */
+void fill_up(struct bench *b);
+
+/* The packets of the tests. The time is that of C8. */
+#define SESSION "ISE0000001"
+#define NINETEEN_SPACES "                   "
+#define LOGIN "\x00\x1F" "A" SESSION NINETEEN_SPACES "1"
+#define HEARTBEAT "\x00\x01" "H"
+#define END "\x00\x01" "Z"
+#define TIME "\x00\x00\x1F\x1A\xD6\x35\xBD\x15"
+#define ID7 "\x00\x00\x00\x07"
+#define ID_MAX "\xFF\xFF\xFF\xFF"
+#define SPACES16 "                "
+#define EVENT(code) "\x00\x0D" "SS" "\x00\x09" TIME code
+/* symbol, date 2025-06-20, strike 175.0000, type; the fixed part */
+#define FIXED "AAPL    " "\x19\x06\x14" "\x00\x1A\xB3\xF0" "C"
+#define UNDERLYING "AAPL         "
+#define DIRECTORY(id, tradable) \
+    "\x00\x40" "Sm" "\x00\x01" TIME id FIXED UNDERLYING "N" tradable "P" SPACES16
+#define STATE(id, state) "\x00\x11" "SH" "\x00\x02" TIME id state
+#define SHORT_BID "\x00\x00" "\x00\x7D" "\x00\x0A" "\x00\x04" "\x00\x01"
+#define SHORT_ASK "\x00\x03" "\xFF\xFF" "\xFF\xFE" "\x01\x00" "\x00\x02"
+#define LONG_BID \
+    "\x00\x00\x00\x05" "\x7F\xFF\xFF\xFF" "\xFF\xFF\xFF\xFF" "\x00\x01\x00\x00" "\x80\x00\x00\x00"
+#define LONG_ASK \
+    "\x00\x00\x00\x06" "\x00\x00\x30\xD5" "\x00\x00\x00\x0B" "\x00\x00\x00\x0C" "\x00\x00\x00\x0D"
+#define BOTH_SHORT(id) "\x00\x25" "Sq" "\x00\x03" TIME id " " SHORT_BID SHORT_ASK
+#define BOTH_LONG(id) "\x00\x39" "SQ" "\x00\x04" TIME id "X" LONG_BID LONG_ASK
+#define BID_SHORT(id) "\x00\x1B" "Sb" "\x00\x05" TIME id " " SHORT_BID
+#define ASK_SHORT(id) "\x00\x1B" "Sa" "\x00\x06" TIME id "Y" SHORT_ASK
+#define BID_LONG(id) "\x00\x25" "SB" "\x00\x07" TIME id "X" LONG_BID
+#define ASK_LONG(id) "\x00\x25" "SA" "\x00\x08" TIME id " " LONG_ASK
+#define REPLAY_END "\x00\x16" "SM" "123456" "              "
+
+/* The same sides as a row keeps them. */
+#define ROW_SHORT_BID \
+    "\x00\x00\x00\x00" "\x00\x00\x30\xD4" "\x00\x00\x00\x0A" "\x00\x00\x00\x04" "\x00\x00\x00\x01"
+#define ROW_SHORT_ASK \
+    "\x00\x00\x00\x03" "\x00\x63\xFF\x9C" "\x00\x00\xFF\xFE" "\x00\x00\x01\x00" "\x00\x00\x00\x02"
+#define NO_SIDE "\0\0\0\0\0\0\0\0\0\0\0\0\0\0\0\0\0\0\0\0"
+#define ROW_END "\0\0\0\0\0\0\0\0\0\0\0\0\0\0\0\0\0\0"
+#define ROW(id, tradable, state, condition, sides, bid, ask, tracking) \
+    id FIXED UNDERLYING "N" tradable "P" SPACES16 state condition sides "\0" \
+    bid ask "\x00" tracking TIME ROW_END
+
+/* One session with every sort of packet, and its packets' places. */
+static const uint8_t day[] = HEARTBEAT LOGIN EVENT("O") DIRECTORY(ID7, "Y")
+    "\x00\x06" "+hello" DIRECTORY(ID_MAX, "Y") DIRECTORY("\0\0\0\x08", "Y")
+    EVENT("S") STATE(ID7, "T") STATE(ID_MAX, "T") STATE("\0\0\0\x08", "T")
+    BOTH_SHORT(ID7) DIRECTORY("\0\0\0\x09", "N") DIRECTORY("\0\0\0\x0A", "Y")
+    BOTH_LONG(ID_MAX) EVENT("Q") HEARTBEAT BID_SHORT("\0\0\0\x08")
+    ASK_SHORT(ID7) BID_LONG(ID7) ASK_LONG("\0\0\0\x08") "\x00\x01" "U"
+    DIRECTORY(ID_MAX, "N") STATE(ID7, "H") REPLAY_END HEARTBEAT END;
+
+enum { DAY_BYTES = sizeof day - 1, DAY_PACKETS = 27 };
+
+void test_reading(void);
+void test_messages(void);
+void test_images(void);
+void test_generators(void);
+
+#endif

@@ -1,0 +1,152 @@
+/* The generators, run through the plain reader: what they make is what they say. */
+#include "plaintest.h"
+
+/* Runs bytes in random pieces until they run out or the reader stops; the
+ * refusal, or 0. */
+static uint32_t run(struct dice *d, struct bench *b, const struct bytes *s)
+{
+    struct plain_answer a;
+    size_t at = 0;
+    do {
+        size_t n = d ? make_piece_size(d, s->n - at) : s->n - at;
+        a = step(b, s->at + at, n);
+        EXPECT(a.taken <= n && (a.kind != PLAIN_MORE || a.taken == n), "bytes taken");
+        at += a.taken;
+    } while (a.kind == PLAIN_EVENT || (a.kind == PLAIN_MORE && at < s->n));
+    return a.refusal;
+}
+
+static uint8_t session_space[200000];
+
+static void true_sessions(void)
+{
+    for (uint64_t seed = 0; seed < 400; seed++) {
+        struct dice d = dice_seeded(seed);
+        struct session_plan plan = random_plan(&d);
+        struct bytes s = {session_space, 0, sizeof session_space};
+        struct bench whole, cut;
+        uint32_t refusal;
+        EXPECT(session_room(&plan) <= s.room, "room");
+        make_session(&d, &plan, &s);
+        start(&whole);
+        whole.r = reader_for_plan(&plan);
+        cut = whole;
+        refusal = run(NULL, &whole, &s);
+        EXPECT(refusal == 0 || (refusal == 6 && whole.r.next == PLAIN_MAX_NUMBER),
+               "a made session is accepted");
+        EQUAL(run(&d, &cut, &s), refusal, "a made session in pieces");
+        EXPECT(plain_same_reader(&whole.r, &cut.r) &&
+                   memcmp(whole.table, cut.table, sizeof cut.table) == 0, "cut and whole");
+    }
+}
+
+static void damaged_sessions(void)
+{
+    unsigned long seen[32] = {0};
+    for (uint64_t seed = 0; seed < 60 * SESSION_DAMAGES; seed++) {
+        struct dice d = dice_seeded(seed ^ UINT64_C(0xDA3A6E));
+        struct session_plan plan = random_plan(&d);
+        struct bytes s = {session_space, 0, sizeof session_space};
+        struct bench whole, cut;
+        uint32_t refusal;
+        make_session(&d, &plan, &s);
+        damage_session(&d, (enum session_damage)(seed % SESSION_DAMAGES), &s);
+        if (dice_chance(&d, 20))
+            damage_session(&d, (enum session_damage)dice_below(&d, SESSION_DAMAGES), &s);
+        start(&whole);
+        whole.r = reader_for_plan(&plan);
+        cut = whole;
+        refusal = run(NULL, &whole, &s);
+        EQUAL(run(&d, &cut, &s), refusal, "a damaged session in pieces");
+        EXPECT(plain_same_reader(&whole.r, &cut.r) &&
+                   memcmp(whole.table, cut.table, sizeof cut.table) == 0, "cut and whole");
+        seen[refusal]++;
+    }
+    for (uint32_t k = 0; k <= 16; k++)
+        if (k <= 6 || k >= 10)
+            EXPECT(seen[k] != 0, "the damages reach every refusal");
+}
+
+static void made_messages(void)
+{
+    for (uint64_t seed = 0; seed < 20000; seed++) {
+        struct dice d = dice_seeded(seed);
+        struct plain_message m, back;
+        uint8_t out[64], again[64];
+        size_t n, k;
+        make_any_message(&d, &m);
+        EQUAL(plain_write(&m, out, sizeof out, &n), 0, "a made record is written");
+        EQUAL(plain_read(out, n, &back), 0, "and read back");
+        EXPECT(plain_same_message(&m, &back), "as the same record");
+        break_message(&d, &m);
+        EQUAL(plain_write(&m, out, sizeof out, &n), 26, "a broken record");
+        n = make_message_bytes(&d, out, sizeof out);
+        if (plain_read(out, n, &m) != 0)
+            continue;
+        EQUAL(plain_write(&m, again, sizeof again, &k), 0, "what is read is written");
+        EXPECT(k == n && memcmp(out, again, n) == 0, "as the same bytes");
+    }
+}
+
+static void made_readers(void)
+{
+    static uint8_t image[PLAIN_IMAGE_BYTES];
+    unsigned long seen[32] = {0};
+    for (uint64_t seed = 0; seed < 4000; seed++) {
+        struct dice d = dice_seeded(seed);
+        struct bench b;
+        uint8_t space[PLAIN_PACKET_BYTES];
+        struct bytes s = {space, 0, sizeof space};
+        size_t n;
+        make_reader(&d, seed % 2 == 0, &b.r, b.table);
+        EQUAL(plain_save(&b.r, b.table, sizeof b.table, image, sizeof image, &n), 0, "a made handle saves");
+        if (seed % 5 == 0)
+            blur_table(&d, &b.r, b.table);
+        put_packet_for(&d, &b.r, b.table, &s);
+        if (seed % 2 == 0)
+            b.r.used = 0;
+        seen[step(&b, s.at, s.n).refusal]++;
+        if (seed % 3 == 0) {
+            spoil_reader(&d, &b.r);
+            EQUAL(plain_save(&b.r, b.table, sizeof b.table, image, sizeof image, &n), 24, "a spoilt handle");
+        }
+        break_reader(&d, &b.r);
+        EQUAL(step(&b, space, 1).refusal, 20, "a broken handle");
+        EQUAL(plain_save(&b.r, b.table, sizeof b.table, image, sizeof image, &n), 20, "a broken handle");
+    }
+    EXPECT(seen[0] && seen[5] && seen[12] && seen[13] && seen[14] && seen[15] && seen[16],
+           "the made packets reach the rows' refusals");
+}
+
+static void made_images(void)
+{
+    static uint8_t space[PLAIN_IMAGE_BYTES + PLAIN_BLOCK_BYTES], again[PLAIN_IMAGE_BYTES];
+    unsigned long seen[32] = {0};
+    for (uint64_t seed = 0; seed < 150 * IMAGE_DAMAGES; seed++) {
+        struct dice d = dice_seeded(seed);
+        struct bytes image = {space, 0, sizeof space};
+        struct bench b;
+        size_t n;
+        int refusal;
+        make_image(&d, &image);
+        EQUAL(plain_restore(&b.r, b.table, sizeof b.table, image.at, image.n), 0, "a made image");
+        damage_image(&d, (enum image_damage)(seed % IMAGE_DAMAGES), &image);
+        refusal = plain_restore(&b.r, b.table, sizeof b.table, image.at, image.n);
+        seen[refusal]++;
+        if (refusal != 0)
+            continue;
+        EQUAL(plain_save(&b.r, b.table, sizeof b.table, again, sizeof again, &n), 0, "saved again");
+        EXPECT(n == image.n && memcmp(again, image.at, n) == 0, "as the same image");
+    }
+    for (size_t k = 21; k <= 24; k++)
+        EXPECT(seen[k] > 100, "the damages reach every refusal of an image");
+}
+
+void test_generators(void)
+{
+    true_sessions();
+    damaged_sessions();
+    made_messages();
+    made_readers();
+    made_images();
+}
