@@ -267,7 +267,10 @@ class Reader:
         return bytes(out)[:count]
 
     def feed(self, piece):
-        """The events of a piece of the session, as they come. Raises Refused once all before it have been told."""
+        """The events of a piece of the session, as they come. Raises Refused once all before it have been told.
+
+        A loop that is left early leaves the rest of the piece unread.
+        """
         memory, count = _lent(piece)
         at = 0
         while True:
