@@ -66,7 +66,7 @@ enum {
     NELQUBAT_PACKET_BYTES = 258,   /* the longest packet, its length included */
     NELQUBAT_LINE_BYTES = 80,      /* more than any line of the listing */
     NELQUBAT_SESSION_BYTES = 10,
-    NELQUBAT_STACK_BYTES = 4096    /* of stack that a call needs at most */
+    NELQUBAT_STACK_BYTES = 4096    /* more stack than a call was seen to take */
 };
 
 /* Why a call is refused. 1 to 6 and 10 to 16 come from a packet and stand in
