@@ -48,6 +48,7 @@ static uint32_t step(const uint8_t *piece, size_t n)
 
 static void test_sizes(void)
 {
+    EQUAL(nelqubat_is_version(), 1);
     EQUAL(NELQUBAT_HANDLE_BYTES, nelqubat_handle_size());
     EQUAL(NELQUBAT_TABLE_BYTES, nelqubat_table_size());
     EQUAL(NELQUBAT_RECORD_BYTES, nelqubat_record_size());

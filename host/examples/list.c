@@ -34,6 +34,10 @@ int main(void)
 {
     static uint8_t piece[4096];
     size_t n;
+    if (!nelqubat_is_version()) {
+        fprintf(stderr, "list: header and library are not of one version\n");
+        return 2;
+    }
     nelqubat_start(handle, sizeof handle, table, sizeof table);
     do
         n = fread(piece, 1, sizeof piece, stdin);

@@ -121,6 +121,10 @@ int main(int argc, char **argv)
         fprintf(stderr, "usage: resume FILE MESSAGES < SESSION\n");
         return 2;
     }
+    if (!nelqubat_is_version()) {
+        fprintf(stderr, "resume: header and library are not of one version\n");
+        return 2;
+    }
     nelqubat_start(handle, sizeof handle, table, sizeof table);
     do
         n = fread(piece, 1, sizeof piece, stdin);

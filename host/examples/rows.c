@@ -108,6 +108,10 @@ int main(int argc, char **argv)
         }
         ids[i - 1] = (uint32_t)id;
     }
+    if (!nelqubat_is_version()) {
+        fprintf(stderr, "rows: header and library are not of one version\n");
+        return 2;
+    }
     nelqubat_start(handle, sizeof handle, table, sizeof table);
     do
         n = fread(piece, 1, sizeof piece, stdin);

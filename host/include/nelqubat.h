@@ -50,7 +50,7 @@ extern "C" {
 #endif
 
 /* Raised with every change of a call, an answer or a layout that a program can
- * see. */
+ * see; nelqubat_is_version() asks the library for its own. */
 #define NELQUBAT_VERSION 1
 
 /* Sizes, in bytes. */
@@ -154,6 +154,20 @@ static inline size_t nelqubat_taken(uint32_t answer)
 static inline size_t nelqubat_written(uint32_t answer)
 {
     return answer >> 8;
+}
+
+/* The version of the library that is linked. */
+uint32_t nelqubat_version(void);
+
+/* Whether this header is of the same version: a program asks once, at its start.
+ * Libraries that cannot tell are taken with NELQUBAT_WITHOUT_VERSION defined. */
+static inline int nelqubat_is_version(void)
+{
+#ifdef NELQUBAT_WITHOUT_VERSION
+    return 1;
+#else
+    return nelqubat_version() == NELQUBAT_VERSION;
+#endif
 }
 
 /* The sizes above, as the library knows them. */

@@ -18,6 +18,7 @@ import ctypes
 import os
 from typing import NamedTuple, Optional
 
+VERSION = 1
 HANDLE_BYTES, TABLE_BYTES, RECORD_BYTES = 305, 31744, 112
 ROW_BYTES, IMAGE_BYTES, LINE_BYTES, MESSAGE_BYTES = 124, 33280, 80, 63
 PIECE_BYTES = 65536
@@ -201,6 +202,8 @@ def _load():
         getattr(library, "nelqubat_" + name).restype = ctypes.c_uint32
     library.nelqubat_line.argtypes = memory * 2 + [ctypes.c_size_t] + memory
     library.nelqubat_line.restype = ctypes.c_uint32
+    if hasattr(library, "nelqubat_version") and library.nelqubat_version() != VERSION:
+        raise ImportError(f"the library is of version {library.nelqubat_version()}, this module of {VERSION}")
     for name, count in (("handle", HANDLE_BYTES), ("table", TABLE_BYTES), ("record", RECORD_BYTES)):
         size = getattr(library, f"nelqubat_{name}_size")
         size.restype = ctypes.c_size_t

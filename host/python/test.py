@@ -63,6 +63,9 @@ class Layouts(unittest.TestCase):
         self.places("RECORD", nelqubat.RecordBytes)
         self.places("HANDLE", nelqubat.HandleBytes)
 
+    def test_version(self):
+        self.assertIn(f"#define NELQUBAT_VERSION {nelqubat.VERSION}\n", header())
+
     def test_sizes(self):
         for name in ("HANDLE", "TABLE", "RECORD", "ROW", "IMAGE", "LINE", "MESSAGE"):
             self.assertEqual(getattr(nelqubat, name + "_BYTES"), constants()[name + "_BYTES"], name)
