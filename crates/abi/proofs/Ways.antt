@@ -99,9 +99,9 @@ module _ (handle table : List ℕ) where
   restore-on image handle′ table′ r h fits e f g l =
       unheld-on (r .reader) table′ handle′ h f g fits (ap (λ (b : Came). b .used) e) ∙ ap (λ (b : Came). b .state) e
 
-  pub start-misfit : (length handle ≡ handleSize → ⊥) → left 20 handle table ≡ startHost handle table
+  pub start-unfit : (length handle ≡ handleSize → ⊥) → left 20 handle table ≡ startHost handle table
   unfolding startHost
-  start-misfit d = rw (ne-eqb (length handle) handleSize d)
+  start-unfit d = rw (ne-eqb (length handle) handleSize d)
 
   pub start-goes : (handle′ table′ : List ℕ) (s : Started) (h : Head) {n : ℕ} → length handle ≡ handleSize → Starting table s table′ → h ≡ headPart (s .reader)
       → handle′ ≡ handleBytes h noHeld → n ≡ startNumber (s .answer) → left n handle′ table′ ≡ startHost handle table
@@ -109,9 +109,9 @@ module _ (handle table : List ℕ) where
   start-goes handle′ table′ s h l e f g i =
       rw (eq-eqb (length handle) handleSize l, i) (unheld-as (s .reader) table′ handle′ h (startNumber (s .answer)) f g ∙ ap startedAs e)
 
-  pub restore-misfit : (image : List ℕ) → (length handle ≡ handleSize → ⊥) → left 20 handle table ≡ restoreHost handle table image
+  pub restore-unfit : (image : List ℕ) → (length handle ≡ handleSize → ⊥) → left 20 handle table ≡ restoreHost handle table image
   unfolding restoreHost
-  restore-misfit image d = rw (ne-eqb (length handle) handleSize d)
+  restore-unfit image d = rw (ne-eqb (length handle) handleSize d)
 
   pub restore-goes : (image handle′ table′ : List ℕ) (r : Restored) (h : Head) {n : ℕ} → length handle ≡ handleSize → Restores image table r table′ → h ≡ headPart (r .reader)
       → handle′ ≡ handleBytes h noHeld → n ≡ restoreNumber (r .verdict) → left n handle′ table′ ≡ restoreHost handle table image

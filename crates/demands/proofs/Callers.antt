@@ -20,7 +20,7 @@ use Rattle.packet.proofs.Step.{any-caller}
 use Rattle.table.specs.Memory.{tableSize}
 use Rattle.table.specs.Board.{Outcome, accepted, refused, freshBoard, startOf}
 use Rattle.table.specs.Rules.{Sound, boardKeeps}
-use Rattle.table.specs.declared.Refusal.the-variants.{Misfit}
+use Rattle.table.specs.declared.Refusal.the-variants.{Unfit}
 use Rattle.table.proofs.Kept.{start-sound}
 use Rattle.reader.specs.Refusals.{standing}
 use Rattle.reader.specs.Deliver.{Table, Said, deliver}
@@ -106,7 +106,7 @@ begin-sound =
 
 -- the code's answer is that the reader is ready: memory was of the right length
 ready : (t : List ℕ) (s : Started) (t′ : List ℕ) → Starting t s t′ → s .answer ≡ Ready → (y : Bool) → eqb (length t) tableSize ≡ y
-    → (o : Outcome) → o ≡ cond y (accepted freshBoard (replicate (length t) 0)) (refused Misfit freshBoard t)
+    → (o : Outcome) → o ≡ cond y (accepted freshBoard (replicate (length t) 0)) (refused Unfit freshBoard t)
     → begunOf s t′ ≡ record { state = live (freshOn o) []; used = 0; refusal = verdictNumber (o .applied .verdict) }
     → (stateOf (s .reader) t′ ≡ live begin []) × (s .reader .used ≡ 0)
 ready t s t′ h a true e o f g =

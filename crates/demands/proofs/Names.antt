@@ -8,7 +8,7 @@ use borrow.Author.Tests.{eqb-false}
 use lib.Dec.{eqb}
 use Rattle.image.specs.Save.{refusalNumber, Saving, saving}
 use Rattle.image.specs.declared.Refusal.{Refusal}
-use Rattle.image.specs.declared.Refusal.the-variants.{Misfit, BadLength, BadCheck, BadHead, BadContents, ShortOutput}
+use Rattle.image.specs.declared.Refusal.the-variants.{Unfit, BadLength, BadCheck, BadHead, BadContents, ShortOutput}
 use Rattle.image.specs.declared.Saved.{Saved}
 use Rattle.image.specs.declared.Saved.the-variants.{Whole, Unsaved}
 use Rattle.image.specs.declared.Verdict.{Verdict}
@@ -19,11 +19,11 @@ use Rattle.reader.specs.Saving.{Written, writtenOf, restoreNumber}
 
 abbrev nameOf : ℕ → Refusal
 nameOf n =
-    cond (eqb n 20) Misfit
+    cond (eqb n 20) Unfit
     (cond (eqb n 21) BadLength (cond (eqb n 22) BadCheck (cond (eqb n 23) BadHead (cond (eqb n 24) BadContents ShortOutput))))
 
 name-back : (r : Refusal) → nameOf (refusalNumber r) ≡ r
-name-back Misfit = refl
+name-back Unfit = refl
 name-back BadLength = refl
 name-back BadCheck = refl
 name-back BadHead = refl
@@ -35,7 +35,7 @@ names-same r q e = sym (name-back r) ∙ ap nameOf e ∙ name-back q
 
 -- none has the number of no refusal
 no-name : (r : Refusal) → eqb (refusalNumber r) 0 ≡ false
-no-name Misfit = refl
+no-name Unfit = refl
 no-name BadLength = refl
 no-name BadCheck = refl
 no-name BadHead = refl

@@ -33,7 +33,7 @@ use Rattle.image.specs.Restore as images
 use Rattle.image.specs.Restore.{Restoring, restoring, restoreOf}
 use Rattle.image.specs.declared.Header.{Header}
 use Rattle.image.specs.declared.Refusal.{Refusal}
-use Rattle.image.specs.declared.Refusal.the-variants.{Misfit}
+use Rattle.image.specs.declared.Refusal.the-variants.{Unfit}
 use Rattle.image.specs.declared.Saved.{Saved}
 use Rattle.image.specs.declared.Saved.the-variants.{Whole, Unsaved}
 use Rattle.image.specs.declared.Verdict.{Verdict}
@@ -65,10 +65,10 @@ module _ (r : Reader) (t out : List ℕ) (a : Saved) (z : List ℕ) (h : Saves r
   saves-is e = let o = saveOf (headerOf r) t out in sym (saved-same a (o .answer) z (o .out) (rw e at h))
 
   -- THEOREM: a handle that breaks a limit, or table memory of the wrong length, is refusal 20
-  pub save-20 : withinLimits r t ≡ false → (a ≡ Unsaved Misfit) × (z ≡ out)
+  pub save-20 : withinLimits r t ≡ false → (a ≡ Unsaved Unfit) × (z ≡ out)
   unfolding saveAll
   save-20 e =
-      let g : saving a z ≡ unsaved Misfit out = saved-same a (Unsaved Misfit) z out (rw e at h) in
+      let g : saving a z ≡ unsaved Unfit out = saved-same a (Unsaved Unfit) z out (rw e at h) in
       (ap (λ (s : Saving). s .answer) g, ap (λ (s : Saving). s .out) g)
 
   -- THEOREM: a refusal, 20, 24 or 25, writes nothing

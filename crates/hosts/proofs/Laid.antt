@@ -82,7 +82,7 @@ read-some messageRefusals.WrongLength = refl
 read-some messageRefusals.BadField = refl
 
 table-some : (r : tableRefusal.Refusal) → Some (tables.refusalNumber r)
-table-some tableRefusals.Misfit = refl
+table-some tableRefusals.Unfit = refl
 table-some tableRefusals.NoRow = refl
 table-some tableRefusals.NoQuotes = refl
 table-some tableRefusals.FixedField = refl

@@ -126,9 +126,9 @@ module _ (image : List ℕ) (rows : ℕ) (f : PagesIn image firstPage blockSize 
       (pages-part image firstPage blockSize (pagesFor rows) (pagesFor rows - 1) (bodySize - spare) spare f (omega arith) (t .2) ∙ rw (t .1))
 
 module _ (image : List ℕ) (rows count w : ℕ) (ew : w ≡ blocksFor rows) where
-  pub slots-misfit : (w ≡ count → ⊥) → false ≡ slotsKeep image count rows
+  pub slots-other : (w ≡ count → ⊥) → false ≡ slotsKeep image count rows
   unfolding slotsKeep
-  slots-misfit d = rw (← ew, ne-eqb w count d)
+  slots-other d = rw (← ew, ne-eqb w count d)
 
   module _ (fit : w ≡ count) where
     pages-are : count - 1 ≡ pagesFor rows

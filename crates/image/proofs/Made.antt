@@ -16,7 +16,7 @@ use Rattle.table.specs.Memory.{tableSize}
 use Rattle.table.specs.Board.{Outcome, freshBoard, accepted, refused, startOf, applyOf}
 use Rattle.table.specs.Rules.{Sound, boardKeeps}
 use Rattle.table.specs.declared.Board.{Board}
-use Rattle.table.specs.declared.Refusal.the-variants.{Misfit}
+use Rattle.table.specs.declared.Refusal.the-variants.{Unfit}
 use Rattle.table.proofs.Kept.{clash, start-sound, apply-sound, apply-board}
 use Rattle.image.specs.Save.{imageOf, sizeFor, saving, saveOf}
 use Rattle.image.specs.Restore.{restored, restoring, restoreOf}
@@ -35,7 +35,7 @@ start-board : (mem mem′ : List ℕ) (b : Board) → startOf mem ≡ accepted b
 unfolding startOf boardKeeps listed
 start-board mem mem′ b e = by (eqb (length mem) tableSize) e
   where
-    by : (y : Bool) → cond y (accepted freshBoard (replicate (length mem) 0)) (refused Misfit freshBoard mem) ≡ accepted b mem′ → boardKeeps b ≡ true
+    by : (y : Bool) → cond y (accepted freshBoard (replicate (length mem) 0)) (refused Unfit freshBoard mem) ≡ accepted b mem′ → boardKeeps b ≡ true
     by true i = ap (λ (o : Outcome). boardKeeps (o .applied .board)) (sym i)
     by false i = clash i
 

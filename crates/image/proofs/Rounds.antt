@@ -26,7 +26,7 @@ use Rattle.image.specs.Save.{cleared, imageOf, sizeFor, Saving, saving, 
 use Rattle.image.specs.Restore.{verdictOf, memoryOf, Restoring, restored, restoring, restoredBy, restoreOf}
 use Rattle.image.specs.declared.Header.{Header}
 use Rattle.image.specs.declared.Refusal.{Refusal}
-use Rattle.image.specs.declared.Refusal.the-variants.{Misfit, BadContents, ShortOutput}
+use Rattle.image.specs.declared.Refusal.the-variants.{Unfit, BadContents, ShortOutput}
 use Rattle.image.specs.declared.Saved.the-variants.{Whole, Unsaved}
 use Rattle.image.specs.declared.Verdict.{Verdict}
 use Rattle.image.specs.declared.Verdict.the-variants.{Accepted, Refused}
@@ -53,7 +53,7 @@ pub record Stored (h : Header) (mem out : List ℕ) (n : ℕ) (z : List ℕ) : T
 pub stored : (h : Header) (mem out : List ℕ) (n : ℕ) (z : List ℕ) → saveOf h mem out ≡ saving (Whole n) z → Stored h mem out n z
 unfolding saveOf
 stored h mem out n z e =
-    let a = whole-if (withinLimits h mem) _ Misfit out z n e in
+    let a = whole-if (withinLimits h mem) _ Unfit out z n e in
     let b = whole-if (headerKeeps h && rowsKeep (h .board .rows) mem) _ BadContents out z n (a .1) in
     let c = whole-if (leb (sizeFor (h .board .rows)) (length out)) _ ShortOutput out z n (b .1) in
     let g : Whole (sizeFor (h .board .rows)) ≡ Whole n = ap (λ (w : Saving). w .answer) (c .1) in
@@ -120,15 +120,15 @@ taken-if Accepted image old mem h e = (refl, sym (ap (λ (w : Restoring). w .ans
 taken-if (Refused r) image old mem h e =
     let y : Refused r ≡ Accepted = ap (λ (w : Restoring). w .answer .verdict) e in let x : _≡_ {A = ℕ} 0 1 = cc in absurd (omega arith)
 
-sized-if : (b : Bool) (v : Verdict) → cond b v (Refused Misfit) ≡ Accepted → v ≡ Accepted
+sized-if : (b : Bool) (v : Verdict) → cond b v (Refused Unfit) ≡ Accepted → v ≡ Accepted
 sized-if true v e = e
-sized-if false v e = let z : Refused Misfit ≡ Accepted = e in cc
+sized-if false v e = let z : Refused Unfit ≡ Accepted = e in cc
 
 pub taken : (image old mem : List ℕ) (h : Header) → restoreOf image old ≡ restoring (restored Accepted h) mem
     → (verdictOf image ≡ Accepted) × (h ≡ headerOf image) × (mem ≡ memoryOf image)
 unfolding restoreOf
 taken image old mem h e =
-    let t = taken-if (cond (eqb (length old) tableSize) (verdictOf image) (Refused Misfit)) image old mem h e in
+    let t = taken-if (cond (eqb (length old) tableSize) (verdictOf image) (Refused Unfit)) image old mem h e in
     (sized-if (eqb (length old) tableSize) (verdictOf image) (t .0), t .1, t .2)
 
 -- SAVING WHAT WAS RESTORED GIVES THE SAME BYTES

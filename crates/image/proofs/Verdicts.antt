@@ -18,7 +18,7 @@ use Rattle.image.specs.Save.{imageOf, sizeFor, Saving, saving, unsaved, 
 use Rattle.image.specs.Restore.{countOf, lengthKeeps, checksKeep, headKeeps, headsKeep, verdictOf, Restoring, restored, restoring, restoredBy, restoreOf}
 use Rattle.image.specs.declared.Header.{Header}
 use Rattle.image.specs.declared.Refusal.{Refusal}
-use Rattle.image.specs.declared.Refusal.the-variants.{Misfit, BadCheck, BadHead, BadContents, ShortOutput}
+use Rattle.image.specs.declared.Refusal.the-variants.{Unfit, BadCheck, BadHead, BadContents, ShortOutput}
 use Rattle.image.specs.declared.Saved.{Saved}
 use Rattle.image.specs.declared.Saved.the-variants.{Whole, Unsaved}
 use Rattle.image.specs.declared.Verdict.{Verdict}
@@ -49,7 +49,7 @@ bad-next image size c n = rw (size, c, n)
 -- ---- what a refusal leaves
 
 left-if : (a b c : Bool) (n : ℕ) (w out z : List ℕ) (r : Refusal)
-    → cond a (cond b (cond c (saving (Whole n) w) (unsaved ShortOutput out)) (unsaved BadContents out)) (unsaved Misfit out) ≡ saving (Unsaved r) z → z ≡ out
+    → cond a (cond b (cond c (saving (Whole n) w) (unsaved ShortOutput out)) (unsaved BadContents out)) (unsaved Unfit out) ≡ saving (Unsaved r) z → z ≡ out
 left-if true true true n w out z r e =
     let y : Whole n ≡ Unsaved r = ap (λ (s : Saving). s .answer) e in let x : _≡_ {A = ℕ} 0 1 = cc in absurd (omega arith)
 left-if true true false n w out z r e = sym (ap (λ (s : Saving). s .out) e)
@@ -72,7 +72,7 @@ refused-by (Refused q) image mem z h r e = (sym (ap (λ (s : Restoring). s .answ
 -- A REFUSED RESTORING LEAVES TABLE MEMORY, and its header is that of a fresh reader
 pub refused-leaves : (image mem z : List ℕ) (h : Header) (r : Refusal) → restoreOf image mem ≡ restoring (restored (Refused r) h) z → (h ≡ freshHeader) × (z ≡ mem)
 unfolding restoreOf
-refused-leaves image mem z h r e = refused-by (cond (eqb (length mem) tableSize) (verdictOf image) (Refused Misfit)) image mem z h r e
+refused-leaves image mem z h r e = refused-by (cond (eqb (length mem) tableSize) (verdictOf image) (Refused Unfit)) image mem z h r e
 
 -- ---- equal answers
 

@@ -23,7 +23,7 @@ use Rattle.image.specs.Save.{imageOf, sizeFor, saving, unsaved, saveOf}
 use Rattle.image.specs.Restore.{countOf, verdictOf, memoryOf, restored, restoring, restoredBy, restoreOf}
 use Rattle.image.specs.declared.Header.{Header}
 use Rattle.image.specs.declared.Refusal.{Refusal}
-use Rattle.image.specs.declared.Refusal.the-variants.{Misfit, BadLength, BadContents, ShortOutput}
+use Rattle.image.specs.declared.Refusal.the-variants.{Unfit, BadLength, BadContents, ShortOutput}
 use Rattle.image.specs.declared.Saved.the-variants.{Whole}
 use Rattle.image.specs.declared.Verdict.{Verdict}
 use Rattle.image.specs.declared.Verdict.the-variants.{Accepted, Refused}
@@ -66,9 +66,9 @@ limits h mem e =
     }
 
 module _ (h : Header) (mem out : List ℕ) {r : Bool} (er : r ≡ withinLimits h mem) where
-  pub save-misfit : not r ≡ true → unsaved Misfit out ≡ saveOf h mem out
+  pub save-unfit : not r ≡ true → unsaved Unfit out ≡ saveOf h mem out
   unfolding saveOf
-  save-misfit n = simp (was-no er n)
+  save-unfit n = simp (was-no er n)
 
   module _ (yes-r : not r ≡ false) where
     pub save-limits : Limits h mem
@@ -107,9 +107,9 @@ pub refused-with : (r : Refusal) {h : Header} → h ≡ freshHeader → restored
 refused-with r e = ap (restored (Refused r)) e
 
 module _ (image mem : List ℕ) where
-  pub restore-misfit : {a : Restored} → a ≡ restored (Refused Misfit) freshHeader → (length mem ≡ tableSize → ⊥) → restoring a mem ≡ restoreOf image mem
+  pub restore-unfit : {a : Restored} → a ≡ restored (Refused Unfit) freshHeader → (length mem ≡ tableSize → ⊥) → restoring a mem ≡ restoreOf image mem
   unfolding restoreOf restoredBy
-  restore-misfit e d = simp (ne-eqb _ _ d, e)
+  restore-unfit e d = simp (ne-eqb _ _ d, e)
 
   module _ (l : length mem ≡ tableSize) {v : Verdict} (ev : v ≡ verdictOf image) where
     judged : restoredBy v image mem ≡ restoreOf image mem

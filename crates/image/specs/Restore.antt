@@ -14,7 +14,7 @@ use Rattle.table.specs.Rules.{rowsKeep}
 use Rattle.image.specs.Shape.{blocksFor, mostBlocks, headFor, pages, firstPage, allBelow}
 use Rattle.image.specs.Header.{freshHeader, headerKeeps, factsSize, headerOf}
 use Rattle.image.specs.declared.Header.{Header}
-use Rattle.image.specs.declared.Refusal.the-variants.{Misfit, BadLength, BadCheck, BadHead, BadContents}
+use Rattle.image.specs.declared.Refusal.the-variants.{Unfit, BadLength, BadCheck, BadHead, BadContents}
 use Rattle.image.specs.declared.Verdict.{Verdict}
 use Rattle.image.specs.declared.Verdict.the-variants.{Accepted, Refused}
 use Rattle.image.specs.declared.Restored.{Restored}
@@ -92,4 +92,4 @@ restoredBy (Refused r) image mem = restoring (restored (Refused r) freshHeader) 
 -- 20 for table memory of the wrong length comes first
 unfoldable pub restoreOf : List ℕ → List ℕ → Restoring
 restoreOf image mem =
-    restoredBy (cond (eqb (length mem) tableSize) (verdictOf image) (Refused Misfit)) image mem
+    restoredBy (cond (eqb (length mem) tableSize) (verdictOf image) (Refused Unfit)) image mem

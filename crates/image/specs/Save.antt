@@ -13,13 +13,13 @@ use Rattle.image.specs.Shape.{blocksFor, headFor}
 use Rattle.image.specs.Header.{withinLimits, headerKeeps, firstBody}
 use Rattle.image.specs.declared.Header.{Header}
 use Rattle.image.specs.declared.Refusal.{Refusal}
-use Rattle.image.specs.declared.Refusal.the-variants.{Misfit, BadLength, BadCheck, BadHead, BadContents, ShortOutput}
+use Rattle.image.specs.declared.Refusal.the-variants.{Unfit, BadLength, BadCheck, BadHead, BadContents, ShortOutput}
 use Rattle.image.specs.declared.Saved.{Saved}
 use Rattle.image.specs.declared.Saved.the-variants.{Whole, Unsaved}
 
 -- ---- the paper's number of each refusal
 abbrev pub refusalNumber : Refusal → ℕ
-refusalNumber Misfit = 20
+refusalNumber Unfit = 20
 refusalNumber BadLength = 21
 refusalNumber BadCheck = 22
 refusalNumber BadHead = 23
@@ -76,4 +76,4 @@ saveOf h mem out =
     (saving (Whole (sizeFor (h .board .rows))) (overlay out 0 (imageOf h mem)))
     (unsaved ShortOutput out))
     (unsaved BadContents out))
-    (unsaved Misfit out)
+    (unsaved Unfit out)

@@ -27,7 +27,7 @@ pub struct Header {
 
 pub enum Refusal {
     // Table memory of the wrong length, or a header outside its limits.
-    Misfit,
+    Unfit,
     // The image is empty, has a piece of a block or too many blocks.
     BadLength,
     // A block's check is wrong.
@@ -60,7 +60,7 @@ pub fn refusal_number(r: Refusal) -> u8
     ensures { λ n. ⌜ n ≡ refusalNumber r ⌝ }
 {
     match r {
-        Refusal::Misfit => 20,
+        Refusal::Unfit => 20,
         Refusal::BadLength => 21,
         Refusal::BadCheck => 22,
         Refusal::BadHead => 23,
@@ -93,7 +93,7 @@ pub fn save(h: Header, table: &[u8], out: &mut [u8]) -> Saved
     ensures { λ r. ⌜ saving r (now (out .exit)) ≡ saveOf h (now (table .entry)) (now (out .entry)) ⌝ }
 {
     if !within_limits(h, table) {
-        return Saved::Unsaved(Refusal::Misfit);
+        return Saved::Unsaved(Refusal::Unfit);
     }
     let rows = h.board.rows;
     let kept = facts::keep(h) & rows::keep(table, 0, block::BODY_SIZE, rows);
@@ -124,7 +124,7 @@ pub fn restore(image: &[u8], table: &mut [u8]) -> Restored
     ensures { λ r. ⌜ restoring r (now (table .exit)) ≡ restoreOf (now (image .entry)) (now (table .entry)) ⌝ }
 {
     if table.len() != table::TABLE_SIZE {
-        return refuse(Refusal::Misfit);
+        return refuse(Refusal::Unfit);
     }
     match judge::judge(image) {
         Verdict::Accepted => {

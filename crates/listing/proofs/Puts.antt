@@ -178,9 +178,9 @@ module _ (k next rows : ℕ) (mem : List ℕ) (ending : Ending) where
   unfolding lineIn
   line-none n h e = rw (ne-eqb k 0 n, lt-leb k rows h, ne-eqb k (rows + 1) e)
 
-  pub misfit-none : (length mem ≡ 31744 → ⊥) → [] ≡ lineOf k next rows mem ending
+  pub unfit-none : (length mem ≡ 31744 → ⊥) → [] ≡ lineOf k next rows mem ending
   unfolding lineOf
-  misfit-none n = rw (ne-eqb (length mem) 31744 n)
+  unfit-none n = rw (ne-eqb (length mem) 31744 n)
 
   pub many-none : length mem ≡ 31744 → 256 < rows → [] ≡ lineOf k next rows mem ending
   unfolding lineOf

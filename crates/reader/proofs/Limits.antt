@@ -239,7 +239,7 @@ module _ (memory after : List ℕ) (a : Applied) (l : Line) (r : Reader) (e : ou
 -- ---- the ways through saving and restoring
 
 module _ (r : Reader) (memory out : List ℕ) {w : Bool} (e : w ≡ withinLimits r memory) where
-  pub save-unfit : not w ≡ true → Saves r memory out (saved.Unsaved images.Misfit) out
+  pub save-unfit : not w ≡ true → Saves r memory out (saved.Unsaved images.Unfit) out
   unfolding saveAll
   save-unfit f = rw (not-call w (withinLimits r memory) e f)
 

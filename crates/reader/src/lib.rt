@@ -416,7 +416,7 @@ impl Reader {
     {
         let held = self.held;
         if !within_limits(self.head(), &held, table) {
-            return Saved::Unsaved(image::Refusal::Misfit);
+            return Saved::Unsaved(image::Refusal::Unfit);
         }
         let line = self.line;
         let session = line.session;

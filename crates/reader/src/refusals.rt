@@ -84,7 +84,7 @@ pub fn of_table(t: table::Refusal) -> Refusal
     ensures { λ r. ⌜ refusalNumber r ≡ tables.refusalNumber t ⌝ }
 {
     match t {
-        table::Refusal::Misfit => Refusal::Unfit,
+        table::Refusal::Unfit => Refusal::Unfit,
         table::Refusal::NoRow => Refusal::NoRow,
         table::Refusal::NoQuotes => Refusal::NoQuotes,
         table::Refusal::FixedField => Refusal::FixedField,

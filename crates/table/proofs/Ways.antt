@@ -26,7 +26,7 @@ use Rattle.table.specs.Board.{outcome, taken, denied, freshBoard, oneMor
 use Rattle.table.specs.declared.Found.{Found}
 use Rattle.table.specs.declared.Found.the-variants.{At, Nothing}
 use Rattle.table.specs.declared.Board.{Board}
-use Rattle.table.specs.declared.Refusal.the-variants.{Misfit, NoRow, NoQuotes, FixedField, TableFull}
+use Rattle.table.specs.declared.Refusal.the-variants.{Unfit, NoRow, NoQuotes, FixedField, TableFull}
 use Rattle.table.specs.declared.Applied.{Applied}
 use Rattle.table.proofs.Search.{found}
 
@@ -122,9 +122,9 @@ module _ (mem : List ℕ) (b : Board) {w : Found} {a : Applied} where
 -- ---- starting
 
 module _ (mem : List ℕ) {f : Board} {a : Applied} (fresh : f ≡ freshBoard) where
-  pub start-misfit : (length mem ≡ 31744 → ⊥) → a ≡ denied Misfit f → outcome a mem ≡ startOf mem
+  pub start-unfit : (length mem ≡ 31744 → ⊥) → a ≡ denied Unfit f → outcome a mem ≡ startOf mem
   unfolding startOf
-  start-misfit n e = rw (ne-eqb (length mem) 31744 n, e, fresh)
+  start-unfit n e = rw (ne-eqb (length mem) 31744 n, e, fresh)
 
   pub start-clear : {zs : List ℕ} → length mem ≡ 31744 → zs ≡ overlay mem 0 (replicate 31744 0) → a ≡ taken f → outcome a zs ≡ startOf mem
   unfolding startOf
@@ -136,11 +136,11 @@ module _ (mem : List ℕ) {f : Board} {a : Applied} (fresh : f ≡ freshBoard) w
 -- ---- applying
 
 module _ (b : Board) (m : Message) (t : Texts) (mem : List ℕ) {a : Applied} where
-  pub apply-misfit : (length mem ≡ 31744 → ⊥) → a ≡ denied Misfit b → outcome a mem ≡ applyOf b m t mem
+  pub apply-unfit : (length mem ≡ 31744 → ⊥) → a ≡ denied Unfit b → outcome a mem ≡ applyOf b m t mem
   unfolding applyOf fits
-  apply-misfit n e = rw (ne-eqb (length mem) 31744 n, e)
+  apply-unfit n e = rw (ne-eqb (length mem) 31744 n, e)
 
-  pub apply-many : length mem ≡ 31744 → 256 < b .rows → a ≡ denied Misfit b → outcome a mem ≡ applyOf b m t mem
+  pub apply-many : length mem ≡ 31744 → 256 < b .rows → a ≡ denied Unfit b → outcome a mem ≡ applyOf b m t mem
   unfolding applyOf fits
   apply-many y n e = rw (eq-eqb (length mem) 31744 y, lt-leb (b .rows) 256 n, e)
 

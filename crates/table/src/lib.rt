@@ -31,7 +31,7 @@ pub struct Board {
 
 pub enum Refusal {
     // Memory of the wrong length, or more rows than it has.
-    Misfit,
+    Unfit,
     // A state or a quote for an id with no row.
     NoRow,
     // A quote for a row that may take none.
@@ -62,7 +62,7 @@ pub fn refusal_number(r: Refusal) -> u8
     ensures { λ n. ⌜ n ≡ refusalNumber r ⌝ }
 {
     match r {
-        Refusal::Misfit => 20,
+        Refusal::Unfit => 20,
         Refusal::NoRow => 13,
         Refusal::NoQuotes => 14,
         Refusal::FixedField => 15,
@@ -119,7 +119,7 @@ pub fn start(table: &mut [u8]) -> Applied
     ensures { λ r. ⌜ outcome r (now (table .exit)) ≡ startOf (now (table .entry)) ⌝ }
 {
     if table.len() != TABLE_SIZE {
-        return refuse(Refusal::Misfit, fresh_board());
+        return refuse(Refusal::Unfit, fresh_board());
     }
     field::fill(table, 0, TABLE_SIZE, 0);
     accept(fresh_board())
@@ -254,10 +254,10 @@ pub fn apply(board: Board, message: Message, texts: Texts, table: &mut [u8]) -> 
     ensures { λ r. ⌜ outcome r (now (table .exit)) ≡ applyOf board message texts (now (table .entry)) ⌝ }
 {
     if table.len() != TABLE_SIZE {
-        return refuse(Refusal::Misfit, board);
+        return refuse(Refusal::Unfit, board);
     }
     if MOST_ROWS < board.rows {
-        return refuse(Refusal::Misfit, board);
+        return refuse(Refusal::Unfit, board);
     }
     dispatch(board, message, texts, table)
 }

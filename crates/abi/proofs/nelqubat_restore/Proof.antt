@@ -3,7 +3,7 @@
 use borrow.Author.Needs.{needs}
 use denote.Ref.{now}
 use Rattle.handle.proofs.Rounds.{HeadFits}
-use Rattle.abi.proofs.Ways.{start-none, restore-misfit, restore-goes, restore-on}
+use Rattle.abi.proofs.Ways.{start-none, restore-unfit, restore-goes, restore-on}
 use Rattle.abi.proofs.nelqubat_restore.Statement.{statement}
 use Rattle.abi.proofs.nelqubat_restore.Tie as tie
 
@@ -23,7 +23,7 @@ fits a =
 returns : tie.Need-returns
 returns c =
     let start = c .before .before .before .before in
-    (search restore-misfit, start-none (now (start .args .handle)) (now (start .args .table)) (c .if1 .taken))
+    (search restore-unfit, start-none (now (start .args .handle)) (now (start .args .table)) (c .if1 .taken))
 
 returns-2 : tie.Need-returns-2
 returns-2 c =

@@ -2,13 +2,13 @@
 -- Assumes nothing.
 use native.Mathlib.Omega.{arith}
 use Rattle.image.proofs.Judged.{Long}
-use Rattle.image.proofs.Ways.{accepted-long, restore-misfit, restore-accepts, restore-refuses}
+use Rattle.image.proofs.Ways.{accepted-long, restore-unfit, restore-accepts, restore-refuses}
 use borrow.Author.Needs.{needs}
 use Rattle.image.proofs.restore.Statement.{statement}
 use Rattle.image.proofs.restore.Tie as tie
 
 returns : tie.Need-returns
-returns c = search restore-misfit
+returns c = search restore-unfit
 
 sub-take : tie.Need-sub-take
 sub-take c = let l : Long (c .before .before .before .before .before .before .before .args .image .now) = search accepted-long in l .least

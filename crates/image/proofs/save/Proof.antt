@@ -2,13 +2,13 @@
 -- Assumes nothing.
 use native.Mathlib.Omega.{arith}
 use Rattle.image.proofs.Puts.{count-few}
-use Rattle.image.proofs.Ways.{Limits, table-pages, save-misfit, save-limits, save-broken, save-short, save-whole}
+use Rattle.image.proofs.Ways.{Limits, table-pages, save-unfit, save-limits, save-broken, save-short, save-whole}
 use borrow.Author.Needs.{needs}
 use Rattle.image.proofs.save.Statement.{statement}
 use Rattle.image.proofs.save.Tie as tie
 
 returns : tie.Need-returns
-returns c = search save-misfit
+returns c = search save-unfit
 
 keep-requires-2 : tie.Need-keep-requires-2
 keep-requires-2 c κs = let s = c .before .before .before .before .before in let l : Limits (s .args .h) (s .args .table .now) = search save-limits in table-pages (s .args .table .now) (s .args .h .board .rows) (l .sized) (l .few)

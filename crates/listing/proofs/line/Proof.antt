@@ -1,12 +1,12 @@
 -- `listing::line` meets its contract.
 -- Assumes nothing.
 use borrow.Author.Needs.{needs}
-use Rattle.listing.proofs.Puts.{line-made, line-as, no-line, misfit-none, many-none, line-fits}
+use Rattle.listing.proofs.Puts.{line-made, line-as, no-line, unfit-none, many-none, line-fits}
 use Rattle.listing.proofs.line.Statement.{statement}
 use Rattle.listing.proofs.line.Tie as tie
 
 returns : tie.Need-returns
-returns c = line-made _ _ (no-line _ _ (misfit-none _ _ _ _ _ (c .if1 .taken)))
+returns c = line-made _ _ (no-line _ _ (unfit-none _ _ _ _ _ (c .if1 .taken)))
 
 returns-2 : tie.Need-returns-2
 returns-2 c = line-made _ _ (no-line _ _ (many-none _ _ _ _ _ (c .before .if1 .left) (c .if2 .taken)))

@@ -2,12 +2,12 @@
 -- Assumes nothing.
 use native.Mathlib.Omega.{arith}
 use borrow.Author.Needs.{needs}
-use Rattle.table.proofs.Ways.{apply-misfit, apply-many, apply-does}
+use Rattle.table.proofs.Ways.{apply-unfit, apply-many, apply-does}
 use Rattle.table.proofs.apply.Statement.{statement}
 use Rattle.table.proofs.apply.Tie as tie
 
 returns : tie.Need-returns
-returns c = search (apply-misfit, needs)
+returns c = search (apply-unfit, needs)
 
 returns-2 : tie.Need-returns-2
 returns-2 c = search (apply-many, needs)

@@ -1,12 +1,12 @@
 -- `table::start` meets its contract.
 -- Assumes nothing.
 use borrow.Author.Needs.{needs}
-use Rattle.table.proofs.Ways.{start-misfit, start-clear}
+use Rattle.table.proofs.Ways.{start-unfit, start-clear}
 use Rattle.table.proofs.start.Statement.{statement}
 use Rattle.table.proofs.start.Tie as tie
 
 returns : tie.Need-returns
-returns c = search (start-misfit, needs)
+returns c = search (start-unfit, needs)
 
 returns-2 : tie.Need-returns-2
 returns-2 c = search (start-clear, needs)
