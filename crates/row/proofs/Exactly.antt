@@ -10,7 +10,7 @@ use lib.ListN.{length, replicate, length-replicate}
 use Rattle.field.specs.Bytes.{part, digits, be, bytesBe}
 use Rattle.field.proofs.Parts.{part-part}
 use Rattle.field.proofs.Numbers.{value-digits}
-use Rattle.message.specs.Layout.{tiled, bytesFor, Fit}
+use Rattle.message.specs.Layout.{values, tiled, bytesFor, Fit}
 use Rattle.message.specs.Letters.{instrumentRows, instrumentFields}
 use Rattle.message.specs.declared.Side.{Side}
 use Rattle.message.specs.declared.Side.the-variants.{Bid, Ask}
@@ -20,7 +20,7 @@ use Rattle.message.specs.declared.Directory.{Directory}
 use Rattle.message.specs.declared.TradingAction.{TradingAction}
 use Rattle.message.specs.declared.Texts.{Texts}
 use Rattle.message.proofs.Layouts.{fields-length}
-use Rattle.row.specs.Fields.{rowSize, idOf, sidesOf, sideAt, other, numbersOf}
+use Rattle.row.specs.Fields.{rowSize, entrySize, entryOf, idOf, sidesOf, sideAt, other, numbersOf}
 use Rattle.row.specs.Changes.{Change, changed, Place, place, places, outside, entryChange, conditionChange, stampChange, purge, purgeFor, sidesChanges, directoryChanges, newRow, actionChanges, quoteChanges, directoryPlaces, actionPlaces, sidesPlaces, quotePlaces}
 use Rattle.row.specs.declared.Sides.{Sides}
 use Rattle.row.specs.declared.Sides.the-variants.{One, Both}
@@ -62,12 +62,13 @@ unfolding actionChanges digits bytesFor inside
 action-fitting a = record { wide = (refl, (refl, tt)); within = refl; there = refl }
 
 module _ (d : Directory) (t : Texts) (fit : Fit instrumentRows (instrumentFields (d .instrument) t)) where
-  entry-wide : length (entryChange (d .instrument) t .bytes) ≡ 52
+  -- an entry's bytes are so many: its layout goes from byte 11 to byte 63 of a directory
+  pub entry-wide : length (entryChange (d .instrument) t .bytes) ≡ entrySize
   unfolding tiled
   entry-wide = omega (arith, fields-length instrumentRows (instrumentFields (d .instrument) t) 11 63 refl fit)
 
   relisted : (n : Bool)
-      → Fitting (entryChange (d .instrument) t ∷ stampChange (d .stamp) ∷ purgeFor n) (place 0 52 ∷ place 96 10 ∷ cond n (place 53 1 ∷ place 54 42 ∷ []) [])
+      → Fitting (entryChange (d .instrument) t ∷ stampChange (d .stamp) ∷ purgeFor n) (place 0 entrySize ∷ place 96 10 ∷ cond n (place 53 1 ∷ place 54 42 ∷ []) [])
   unfolding digits bytesFor inside
   relisted true = record { wide = (entry-wide, (refl, (refl, (refl, tt)))); within = refl; there = refl }
   relisted false = record { wide = (entry-wide, (refl, tt)); within = refl; there = refl }
@@ -94,7 +95,7 @@ unfolding outside
 sides-apart Bid n = refl
 sides-apart Ask n = refl
 
-purge-clear : (s : Stamp) (n : Bool) → outside 0 52 (places (stampChange s ∷ purgeFor n)) ≡ true
+purge-clear : (s : Stamp) (n : Bool) → outside 0 entrySize (places (stampChange s ∷ purgeFor n)) ≡ true
 unfolding outside
 purge-clear s true = refl
 purge-clear s false = refl
@@ -103,10 +104,10 @@ purge-clear s false = refl
 
 -- the id that an instrument's bytes begin with
 entry-id : (d : Directory) (t : Texts) (r : List ℕ) → Fit instrumentRows (instrumentFields (d .instrument) t)
-    → part r 0 52 ≡ bytesFor instrumentRows (instrumentFields (d .instrument) t) → idOf r ≡ d .instrument .id
-unfolding digits bytesFor part
+    → entryOf r ≡ bytesFor instrumentRows (instrumentFields (d .instrument) t) → idOf r ≡ d .instrument .id
+unfolding idOf values digits bytesFor part
 entry-id d t r fit e =
-    ap be (sym (part-part r 0 52 0 4 (omega arith)) ∙ ap (λ (x : List ℕ). part x 0 4) e) ∙ value-digits 256 (lit< tt) 4 (d .instrument .id) (fit .0)
+    ap be (sym (part-part r 0 entrySize 0 4 (omega arith)) ∙ ap (λ (x : List ℕ). part x 0 4) e) ∙ value-digits 256 (lit< tt) 4 (d .instrument .id) (fit .0)
 
 module _ (d : Directory) (t : Texts) (fit : Fit instrumentRows (instrumentFields (d .instrument) t)) where
   pub directory-id : (r : List ℕ) → length r ≡ rowSize → idOf (changed (directoryChanges d t) r) ≡ d .instrument .id
@@ -129,10 +130,11 @@ module _ (d : Directory) (t : Texts) (fit : Fit instrumentRows (instrumentFields
 module _ (r : List ℕ) (long : length r ≡ rowSize) where
   -- a quote and a state leave it
   pub quote-id : (q : Quote) → idOf (changed (quoteChanges q r) r) ≡ idOf r
+  unfolding idOf values
   quote-id q = ap be (left-alone (quote-fitting q r) r long 0 4 (quote-clear (q .sides)))
 
   pub action-id : (a : TradingAction) → idOf (changed (actionChanges a) r) ≡ idOf r
-  unfolding outside
+  unfolding idOf values outside
   action-id a = ap be (left-alone (action-fitting a) r long 0 4 refl)
 
   -- THEOREM: the other side keeps every byte on a one-sided quote

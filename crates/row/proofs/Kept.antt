@@ -25,15 +25,16 @@ use Rattle.message.specs.declared.Instrument.{Instrument}
 use Rattle.message.specs.declared.Directory.{Directory}
 use Rattle.message.specs.declared.TradingAction.{TradingAction}
 use Rattle.message.specs.declared.Texts.{Texts}
-use Rattle.message.proofs.Layouts.{values-back, values-in-part, rowsIn, fields-length}
+use Rattle.message.proofs.Layouts.{values-back, values-in-part, rowsIn}
 use Rattle.message.proofs.Typed.{listed-below}
-use Rattle.row.specs.Fields.{rowSize, other, stateOf, conditionOf, sidesOf, sideAt, numbersOf, priceOf, timeOf, hasSeen, seenWith}
+use Rattle.row.specs.Fields.{rowSize, entrySize, entryOf, other, stateOf, conditionOf, sidesOf, sideAt, numbersOf, priceOf, timeOf, hasSeen, seenWith}
 use Rattle.row.specs.Changes.{Change, change, changed, places, outside, entryChange, stateChange, conditionChange, seenChange, numbersChange, stampChange, purge, purgeFor, sidesChanges, directoryChanges, newRow, actionChanges, quoteChanges}
 use Rattle.row.specs.Rules.{entryKeeps, marksKeep, sideKeeps, bareKeeps, stampKeeps, spareKeeps, rowKeeps}
 use Rattle.row.specs.declared.Sides.{Sides}
 use Rattle.row.specs.declared.Sides.the-variants.{One, Both}
 use Rattle.row.specs.declared.Quote.{Quote}
 use Rattle.row.proofs.Changed.{Wide, inside, part-kept, part-put}
+use Rattle.row.proofs.Exactly.{entry-wide}
 
 -- ---- the rules one by one
 
@@ -84,11 +85,11 @@ pub one-back : (r : List ℕ) (at v : ℕ) → v < 256 → part r at 1 ≡ bytes
 one-back r at v h e = ap be e ∙ value-digits 256 (lit< tt) 1 v h
 
 module _ (r r′ : List ℕ) where
-  pub entry-same : part r′ 0 52 ≡ part r 0 52 → entryKeeps r′ ≡ entryKeeps r
+  pub entry-same : entryOf r′ ≡ entryOf r → entryKeeps r′ ≡ entryKeeps r
   unfolding entryKeeps rowsIn
   entry-same e =
       ap (keepsAll entryRows)
-      (sym (values-in-part 0 52 entryRows r′ refl) ∙ ap (values (from 0 entryRows)) e ∙ values-in-part 0 52 entryRows r refl)
+      (sym (values-in-part 0 entrySize entryRows r′ refl) ∙ ap (values (from 0 entryRows)) e ∙ values-in-part 0 entrySize entryRows r refl)
 
   side-same : (side : Side) → hasSeen side (sidesOf r′) ≡ hasSeen side (sidesOf r) → numbersOf side r′ ≡ numbersOf side r → sideKeeps side r′ ≡ sideKeeps side r
   unfolding sideKeeps
@@ -167,7 +168,7 @@ module _ (c : ℕ) (s : Stamp) (r : List ℕ) (long : rowSize ≤ length r) (hc 
 
   -- what every quote's changes leave and put
   record Quoted (r′ : List ℕ) (sides : ℕ) : Type 0 where
-    entry : part r′ 0 52 ≡ part r 0 52
+    entry : entryOf r′ ≡ entryOf r
     state : part r′ 52 1 ≡ part r 52 1
     condition : part r′ 53 1 ≡ bytesBe 1 c
     seen : part r′ 54 1 ≡ bytesBe 1 sides
@@ -201,7 +202,7 @@ module _ (c : ℕ) (s : Stamp) (r : List ℕ) (long : rowSize ≤ length r) (hc 
   -- the numbers stand where nothing else of a row does
   abbrev Clear : List Change → Type 0
   Clear nums =
-      (outside 0 52 (places nums) ≡ true) × (outside 52 1 (places nums) ≡ true) × (outside 53 1 (places nums) ≡ true) × (outside 54 1 (places nums) ≡ true)
+      (outside 0 entrySize (places nums) ≡ true) × (outside 52 1 (places nums) ≡ true) × (outside 53 1 (places nums) ≡ true) × (outside 54 1 (places nums) ≡ true)
       × (outside 55 1 (places nums) ≡ true) × (outside 96 10 (places nums) ≡ true) × (outside 106 18 (places nums) ≡ true)
 
   module _ (sides : ℕ) (nums : List Change) (wide : Wide nums) (within : inside 124 nums ≡ true) (clear : Clear nums) where
@@ -218,7 +219,7 @@ module _ (c : ℕ) (s : Stamp) (r : List ℕ) (long : rowSize ≤ length r) (hc 
     quoted =
         let cs : List Change = quotes sides nums in
         record {
-          entry = part-kept cs r 124 0 52 all-wide long all-inside (clear .0);
+          entry = part-kept cs r 124 0 entrySize all-wide long all-inside (clear .0);
           state = part-kept cs r 124 52 1 all-wide long all-inside (clear .1);
           condition = part-put [] (conditionChange c) (stampChange s ∷ seenChange sides ∷ nums) r 124 all-wide long all-inside (clear .2);
           seen = part-put (conditionChange c ∷ stampChange s ∷ []) (seenChange sides) nums r 124 all-wide long all-inside (clear .3);
@@ -294,7 +295,7 @@ action-keeps a r long hs ht k =
     let v : sidesOf r′ ≡ sidesOf r = ap be (left 54 1 refl) in
     let s : stateOf r′ ≡ a .state = one-back r′ 52 (a .state) (listed-below states (a .state) refl hs) (part-put [] (stateChange (a .state)) (stampChange (a .stamp) ∷ []) r 124 w long refl refl) in
     record {
-      entry = entry-same r r′ (left 0 52 refl) ∙ k .entry;
+      entry = entry-same r r′ (left 0 entrySize refl) ∙ k .entry;
       state = ap (listed (0 ∷ states)) s ∙ ap (λ (b : Bool). cond (eqb 0 (a .state)) true b) hs ∙ first-true (eqb 0 (a .state));
       condition = ap (λ (x : List ℕ). listed conditions (be x)) (left 53 1 refl) ∙ k .condition;
       sides = ap (λ (x : ℕ). leb x 3) v ∙ k .sides;
@@ -312,22 +313,18 @@ module _ (d : Directory) (t : Texts) (fit : Fit instrumentRows (instrumentFields
   abbrev entryBytes : List ℕ
   entryBytes = bytesFor instrumentRows (instrumentFields (d .instrument) t)
 
-  pub entry-length : length entryBytes ≡ 52
-  unfolding tiled
-  entry-length = omega (arith, fields-length instrumentRows (instrumentFields (d .instrument) t) 11 63 refl fit)
-
-  entry-values : (r : List ℕ) → part r 0 52 ≡ entryBytes → values entryRows r ≡ instrumentFields (d .instrument) t
+  entry-values : (r : List ℕ) → entryOf r ≡ entryBytes → values entryRows r ≡ instrumentFields (d .instrument) t
   unfolding rowsIn tiled keepsAll bytesFor
   entry-values r e =
-      sym (values-in-part 0 52 entryRows r refl) ∙ ap (values entryRows) e
-      ∙ values-back entryRows (instrumentFields (d .instrument) t) [] 0 52 refl fit fine refl
+      sym (values-in-part 0 entrySize entryRows r refl) ∙ ap (values entryRows) e
+      ∙ values-back entryRows (instrumentFields (d .instrument) t) [] 0 entrySize refl fit fine refl
 
-  entry-put : (r : List ℕ) → part r 0 52 ≡ entryBytes → entryKeeps r ≡ true
+  entry-put : (r : List ℕ) → entryOf r ≡ entryBytes → entryKeeps r ≡ true
   unfolding entryKeeps keepsAll
   entry-put r e = ap (keepsAll entryRows) (entry-values r e) ∙ fine
 
   -- a row with no quotes
-  bare-kept : (r : List ℕ) → part r 0 52 ≡ entryBytes → listed (0 ∷ states) (stateOf r) ≡ true → part r 53 1 ≡ bytesBe 1 32
+  bare-kept : (r : List ℕ) → entryOf r ≡ entryBytes → listed (0 ∷ states) (stateOf r) ≡ true → part r 53 1 ≡ bytesBe 1 32
       → part r 54 42 ≡ replicate 42 0 → part r 96 10 ≡ bytesFor stampRows (stampFields (d .stamp)) → every isZero (part r 106 18) ≡ true → RowKept r
   unfolding bareKeeps spareKeeps listed every part value
   bare-kept r e s c z m f =
@@ -355,7 +352,7 @@ module _ (d : Directory) (t : Texts) (fit : Fit instrumentRows (instrumentFields
     kept-quotes : RowKept (changed known r)
     unfolding digits bytesFor inside outside
     kept-quotes =
-        let w : Wide known = (entry-length, (refl, tt)) in
+        let w : Wide known = (entry-wide d t fit, (refl, tt)) in
         let r′ : List ℕ = changed known r in
         let left : (i m : ℕ) → outside i m (places known) ≡ true → part r′ i m ≡ part r i m = λ i m o. part-kept known r 124 i m w long refl o in
         let v : sidesOf r′ ≡ sidesOf r = ap be (left 54 1 refl) in
@@ -376,7 +373,7 @@ module _ (d : Directory) (t : Texts) (fit : Fit instrumentRows (instrumentFields
     unfolding digits bytesFor inside outside spareKeeps
     purged-quotes =
         let cs : List Change = known ++ purge in
-        let w : Wide cs = (entry-length, (refl, (refl, (refl, tt)))) in
+        let w : Wide cs = (entry-wide d t fit, (refl, (refl, (refl, tt)))) in
         let r′ : List ℕ = changed cs r in
         bare-kept r′ (part-put [] (entryChange (d .instrument) t) (stampChange (d .stamp) ∷ purge) r 124 w long refl refl)
         (ap (λ (x : List ℕ). listed (0 ∷ states) (be x)) (part-kept cs r 124 52 1 w long refl refl) ∙ k .state)
@@ -399,7 +396,7 @@ module _ (d : Directory) (t : Texts) (fit : Fit instrumentRows (instrumentFields
   unfolding newRow digits bytesFor inside outside part value listed every
   new-keeps =
       let cs : List Change = entryChange (d .instrument) t ∷ conditionChange 32 ∷ stampChange (d .stamp) ∷ [] in
-      let w : Wide cs = (entry-length, (refl, (refl, tt))) in
+      let w : Wide cs = (entry-wide d t fit, (refl, (refl, tt))) in
       let zeros : List ℕ = replicate 124 0 in
       let long : 124 ≤ length zeros = omega (arith, length-replicate {A = ℕ} 124 0) in
       bare-kept (changed cs zeros) (part-put [] (entryChange (d .instrument) t) (conditionChange 32 ∷ stampChange (d .stamp) ∷ []) zeros 124 w long refl refl)

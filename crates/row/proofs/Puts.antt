@@ -24,7 +24,7 @@ use Rattle.message.specs.declared.Instrument.{Instrument}
 use Rattle.message.specs.declared.Directory.{Directory}
 use Rattle.message.specs.declared.TradingAction.{TradingAction}
 use Rattle.message.specs.declared.Texts.{Texts}
-use Rattle.row.specs.Fields.{rowSize, sideAt, priceOf, hasSeen, weight, seenWith, takesQuote}
+use Rattle.row.specs.Fields.{rowSize, textsIn, idOf, tradableOf, sideAt, priceOf, hasSeen, weight, seenWith, takesQuote}
 use Rattle.row.specs.Changes.{changed, entryChange, stampChange, purge, directoryChanges, unchanged, newRow, actionChanges, widened, sidesChanges, quoteChanges}
 use Rattle.row.specs.Rules.{entryKeeps, marksKeep, sideKeeps}
 use Rattle.row.specs.declared.Sides.{Sides}
@@ -132,14 +132,20 @@ new-put xs d t h z e f g =
 
 -- ---- the tests
 
-pub symbol-same : (xs symbol : List ℕ) {r : Bool} → length symbol ≡ 8 → r ≡ same (part xs 4 8) (part symbol 0 8) → r ≡ same (part xs 4 8) symbol
+-- the id is read where the layout has it
+pub id-read : (xs : List ℕ) {id : ℕ} → id ≡ be (part xs 0 4) → id ≡ idOf xs
+unfolding idOf values
+id-read xs e = e
+
+pub symbol-same : (xs symbol : List ℕ) {r : Bool} → length symbol ≡ 8 → r ≡ same (part xs 4 8) (part symbol 0 8) → r ≡ same (textsIn xs .symbol) symbol
+unfolding values
 symbol-same xs symbol e p = p ∙ ap (same (part xs 4 8)) (part-whole symbol 8 e)
 
 -- the fields that may not change, one by one
-pub fixed-same : (xs : List ℕ) (i : Instrument) (t : Texts) {s : Bool} {year month day strike kind : ℕ} → s ≡ same (part xs 4 8) (t .symbol)
+pub fixed-same : (xs : List ℕ) (i : Instrument) (t : Texts) {s : Bool} {year month day strike kind : ℕ} → s ≡ same (textsIn xs .symbol) (t .symbol)
     → year ≡ be (part xs 12 1) → month ≡ be (part xs 13 1) → day ≡ be (part xs 14 1) → strike ≡ be (part xs 15 4) → kind ≡ be (part xs 19 1)
     → s && (eqb year (i .year) && (eqb month (i .month) && (eqb day (i .day) && (eqb strike (i .strike) && eqb kind (i .kind))))) ≡ unchanged i t xs
-unfolding unchanged
+unfolding unchanged values
 fixed-same xs i t a b c d e f = rw (a, b, c, d, e, f)
 
 -- a row's instrument and texts, taken from it, are its own fields
@@ -150,7 +156,7 @@ entry-keeps xs p q e = rw (p, q) at e
 
 pub takes-quote : (xs : List ℕ) {state tradable : ℕ} → state ≡ be (part xs 52 1) → tradable ≡ be (part xs 34 1)
     → eqb state 84 && eqb tradable 89 ≡ takesQuote xs
-unfolding takesQuote
+unfolding takesQuote tradableOf values
 takes-quote xs e f = rw (e, f)
 
 pub price-read : (xs : List ℕ) (side : Side) {at price : ℕ} → at ≡ sideAt side → price ≡ be (part xs (at + 4) 4) → price ≡ priceOf side xs

@@ -5,7 +5,7 @@ use mathlib.Core.Bool.{Bool, true, _&&_, _||_, cond}
 use mathlib.Core.List.{List, [], _∷_, _++_}
 use lib.Dec.{eqb, leb}
 use lib.ListN.{replicate}
-use Rattle.field.specs.Bytes.{part, overlay, be, bytesBe, same}
+use Rattle.field.specs.Bytes.{overlay, bytesBe, same}
 use Rattle.field.specs.Limits.{tenThousandths}
 use Rattle.message.specs.Layout.{bytesFor}
 use Rattle.message.specs.Letters.{stampRows, stampFields, longNumbersRows, longNumbersFields, instrumentRows, instrumentFields}
@@ -17,7 +17,7 @@ use Rattle.message.specs.declared.Instrument.{Instrument}
 use Rattle.message.specs.declared.Directory.{Directory}
 use Rattle.message.specs.declared.TradingAction.{TradingAction}
 use Rattle.message.specs.declared.Texts.{Texts}
-use Rattle.row.specs.Fields.{rowSize, sideAt, sidesOf, seenWith}
+use Rattle.row.specs.Fields.{rowSize, entrySize, instrumentIn, textsIn, sideAt, sidesOf, seenWith}
 use Rattle.row.specs.declared.Sides.{Sides}
 use Rattle.row.specs.declared.Sides.the-variants.{One, Both}
 use Rattle.row.specs.declared.Quote.{Quote}
@@ -57,7 +57,7 @@ places (c ∷ cs) = place (c .at) (c .width) ∷ places cs
 
 -- bytes 11-62 of a directory
 abbrev pub entryChange : Instrument → Texts → Change
-entryChange i t = change 0 52 (bytesFor instrumentRows (instrumentFields i t))
+entryChange i t = change 0 entrySize (bytesFor instrumentRows (instrumentFields i t))
 
 abbrev pub stateChange : ℕ → Change
 stateChange state = change 52 1 (bytesBe 1 state)
@@ -93,10 +93,11 @@ directoryChanges d t =
 -- symbol, date, strike and type must not differ
 unfoldable pub unchanged : Instrument → Texts → List ℕ → Bool
 unchanged i t r =
-    same (part r 4 8) (t .symbol)
-    && (eqb (be (part r 12 1)) (i .year)
-    && (eqb (be (part r 13 1)) (i .month)
-    && (eqb (be (part r 14 1)) (i .day) && (eqb (be (part r 15 4)) (i .strike) && eqb (be (part r 19 1)) (i .kind)))))
+    same (textsIn r .symbol) (t .symbol)
+    && (eqb (instrumentIn r .year) (i .year)
+    && (eqb (instrumentIn r .month) (i .month)
+    && (eqb (instrumentIn r .day) (i .day)
+    && (eqb (instrumentIn r .strike) (i .strike) && eqb (instrumentIn r .kind) (i .kind)))))
 
 -- for a new id: bytes 0-51, condition space, all else zero, and the stamp
 unfoldable pub newRow : Directory → Texts → List ℕ
@@ -133,7 +134,7 @@ quoteChanges q r = conditionChange (q .condition) ∷ stampChange (q .stamp) ∷
 
 -- a directory for a known id: its own bytes, and those of the quotes with tradable N
 abbrev pub directoryPlaces : Directory → List Place
-directoryPlaces d = place 0 52 ∷ place 96 10 ∷ cond (eqb (d .instrument .tradable) 78) (place 53 1 ∷ place 54 42 ∷ []) []
+directoryPlaces d = place 0 entrySize ∷ place 96 10 ∷ cond (eqb (d .instrument .tradable) 78) (place 53 1 ∷ place 54 42 ∷ []) []
 
 -- a state
 abbrev pub actionPlaces : List Place

@@ -5,6 +5,10 @@ use mathlib.Core.Bool.{Bool, _&&_, cond}
 use mathlib.Core.List.{List}
 use lib.Dec.{eqb}
 use Rattle.field.specs.Bytes.{part, be}
+use Rattle.message.specs.Layout.{values}
+use Rattle.message.specs.Letters.{entryRows, instrumentOf, textsOf}
+use Rattle.message.specs.declared.Instrument.{Instrument}
+use Rattle.message.specs.declared.Texts.{Texts}
 use Rattle.message.specs.declared.Side.{Side}
 use Rattle.message.specs.declared.Side.the-variants.{Bid, Ask}
 
@@ -13,15 +17,25 @@ rowSize = 124
 
 -- ---- the places of document 01's table of a row
 
--- 0-51: bytes 11-62 of the latest directory, and of these the id and tradable
+-- 0-51: bytes 11-62 of the latest directory, so many
+abbrev pub entrySize : ℕ
+entrySize = 52
+
 abbrev pub entryOf : List ℕ → List ℕ
-entryOf r = part r 0 52
+entryOf r = part r 0 entrySize
 
-abbrev pub idOf : List ℕ → ℕ
-idOf r = be (part r 0 4)
+-- and its fields, where the layout of a directory has them
+abbrev pub instrumentIn : List ℕ → Instrument
+instrumentIn r = instrumentOf (values entryRows r)
 
-abbrev pub tradableOf : List ℕ → ℕ
-tradableOf r = be (part r 34 1)
+abbrev pub textsIn : List ℕ → Texts
+textsIn r = textsOf (values entryRows r)
+
+unfoldable pub idOf : List ℕ → ℕ
+idOf r = instrumentIn r .id
+
+unfoldable pub tradableOf : List ℕ → ℕ
+tradableOf r = instrumentIn r .tradable
 
 -- 52: trading state, 0 before any
 abbrev pub stateOf : List ℕ → ℕ

@@ -13,10 +13,10 @@ use message::numbers;
 ghost use mathlib.Core.Path.{_≡_};
 ghost use Prim.Native.Nat.{_≤_};
 ghost use lib.ListN.{length};
-ghost use Rattle.field.specs.Bytes.{part, overlay, same};
+ghost use Rattle.field.specs.Bytes.{overlay, same};
 ghost use Rattle.message.specs.Layout.{bytesFor};
 ghost use Rattle.message.specs.Letters.{stampRows, stampFields};
-ghost use Rattle.row.specs.Fields.{rowSize, seenWith, takesQuote};
+ghost use Rattle.row.specs.Fields.{rowSize, textsIn, seenWith, takesQuote};
 ghost use Rattle.row.specs.Changes.{changed, purge, directoryChanges, unchanged, newRow, actionChanges, widened, sidesChanges, quoteChanges};
 
 pub mod fields;
@@ -129,7 +129,7 @@ pub fn put_action(row: &mut [u8], a: TradingAction)
 
 fn is_symbol(row: &[u8], t: Texts) -> bool
     requires { ⌜ rowSize ≤ length (now row) ⌝ }
-    ensures { λ r. ⌜ r ≡ same (part (now (row .entry)) 4 8) (t .symbol) ⌝ }
+    ensures { λ r. ⌜ r ≡ same (textsIn (now (row .entry)) .symbol) (t .symbol) ⌝ }
 {
     let symbol = t.symbol;
     field::equal(row, 4, &symbol, 0, 8)
