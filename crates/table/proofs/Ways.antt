@@ -1,15 +1,16 @@
 -- The ways through the code: what it finds and writes is what the definitions say.
 -- Assumes nothing.
 use mathlib.Core.Path.{_≡_, refl, sym, ap, _∙_}
-use mathlib.Core.Bool.{Bool, true, false, cond, _&&_}
+use mathlib.Core.Bool.{Bool, true, false, cond, _&&_, not}
 use mathlib.Core.List.{List}
 use Prim.Native.Nat.{ℕ, _+_, _-_, _*_, _≤_, _<_}
 use native.Mathlib.Omega.{arith}
-use borrow.Author.Tests.{eq-eqb, ne-eqb, le-leb, lt-leb}
+use borrow.Author.Tests.{eq-eqb, eqb-true, leb-true, le-leb, lt-leb, not-true, not-false}
 use borrow.Rule.Slice.PartMut.{putMid}
 use lib.Dec.{eqb, leb}
 use lib.ListN.{length, replicate, length-replicate}
 use Rattle.field.specs.Bytes.{part, overlay}
+use Rattle.field.proofs.Bools.{both-left, both-right}
 use Rattle.field.proofs.Parts.{part-back, overlay-whole}
 use Rattle.message.specs.declared.Message.{Message}
 use Rattle.message.specs.declared.Message.the-variants as message
@@ -21,7 +22,7 @@ use Rattle.message.specs.declared.Texts.{Texts}
 use Rattle.row.specs.Fields.{takesQuote}
 use Rattle.row.specs.Changes.{changed, unchanged, newRow, directoryChanges, actionChanges, quoteChanges}
 use Rattle.row.specs.declared.Quote.{Quote}
-use Rattle.table.specs.Memory.{mostRows, tableSize, row, withRow, rowFor}
+use Rattle.table.specs.Memory.{mostRows, tableSize, isTable, rowsFit, Fitting, row, withRow, rowFor}
 use Rattle.table.specs.Board.{outcome, taken, denied, freshBoard, oneMore, withEvent, withLive, fits, startOf, directoryAt, actionAt, quoteAt, quote, effect, applyOf}
 use Rattle.table.specs.declared.Found.{Found}
 use Rattle.table.specs.declared.Found.the-variants.{At, Nothing}
@@ -91,7 +92,7 @@ module _ (mem : List ℕ) (b : Board) (d : Directory) (t : Texts) where
 -- ---- by what is found
 
 -- a row that is found lies in the memory
-pub found-fits : (mem : List ℕ) (rows id k : ℕ) {w : Found} → (length mem ≡ tableSize) × (rows ≤ mostRows) → w ≡ rowFor rows mem id → w ≡ At k
+pub found-fits : (mem : List ℕ) (rows id k : ℕ) {w : Found} → Fitting rows mem → w ≡ rowFor rows mem id → w ≡ At k
     → k * 124 + 124 ≤ length mem
 found-fits mem rows id k s p e = let h = found rows mem id k (sym p ∙ e) in omega (arith, h .below, s .0, s .1)
 
@@ -119,34 +120,51 @@ module _ (mem : List ℕ) (b : Board) {w : Found} {a : Applied} where
   unfolding actionAt
   action-none m p e f = rw (← p, e, f)
 
+-- ---- memory and rows that have passed the test
+
+module _ (mem : List ℕ) {w : Bool} (told : w ≡ isTable mem) (y : not w ≡ false) where
+  pub told-long : length mem ≡ tableSize
+  told-long = eqb-true (length mem) tableSize (sym told ∙ not-false w y)
+
+  pub told-room : 0 + tableSize ≤ length mem
+  told-room = omega (arith, told-long)
+
+pub rows-fitting : (rows : ℕ) (mem : List ℕ) → rowsFit rows mem ≡ true → Fitting rows mem
+rows-fitting rows mem e =
+    (eqb-true (length mem) tableSize (both-left (isTable mem) (leb rows mostRows) e), leb-true rows mostRows (both-right (isTable mem) (leb rows mostRows) e))
+
+pub fitting-rows : (rows : ℕ) (mem : List ℕ) → Fitting rows mem → rowsFit rows mem ≡ true
+fitting-rows rows mem f = rw (eq-eqb (length mem) tableSize (f .0), le-leb rows mostRows (f .1))
+
+-- the same of a call that tests them
+pub told-fitting : (rows : ℕ) (mem : List ℕ) {w : Bool} → w ≡ rowsFit rows mem → not w ≡ false → Fitting rows mem
+told-fitting rows mem {w} e y = rows-fitting rows mem (sym e ∙ not-false w y)
+
 -- ---- starting
 
-module _ (mem : List ℕ) {f : Board} {a : Applied} (fresh : f ≡ freshBoard) where
-  pub start-unfit : (length mem ≡ 31744 → ⊥) → a ≡ denied Unfit f → outcome a mem ≡ startOf mem
+module _ (mem : List ℕ) {f : Board} {a : Applied} {w : Bool} (told : w ≡ isTable mem) (fresh : f ≡ freshBoard) where
+  pub start-unfit : not w ≡ true → a ≡ denied Unfit f → outcome a mem ≡ startOf mem
   unfolding startOf
-  start-unfit n e = rw (ne-eqb (length mem) 31744 n, e, fresh)
+  start-unfit n e = rw (← told, not-true w n, e, fresh)
 
-  pub start-clear : {zs : List ℕ} → length mem ≡ 31744 → zs ≡ overlay mem 0 (replicate 31744 0) → a ≡ taken f → outcome a zs ≡ startOf mem
+  pub start-clear : {zs : List ℕ} → not w ≡ false → zs ≡ overlay mem 0 (replicate tableSize 0) → a ≡ taken f → outcome a zs ≡ startOf mem
   unfolding startOf
   start-clear {zs} y g e =
+      let n : length mem ≡ tableSize = told-long mem told y in
       let z : zs ≡ replicate (length mem) 0
-      = g ∙ ap (λ (n : ℕ). overlay mem 0 (replicate n 0)) (sym y) ∙ overlay-whole mem (replicate (length mem) 0) (length-replicate {A = ℕ} (length mem) 0) in
-      rw (eq-eqb (length mem) 31744 y, e, fresh, z)
+      = g ∙ ap (λ (n : ℕ). overlay mem 0 (replicate n 0)) (sym n) ∙ overlay-whole mem (replicate (length mem) 0) (length-replicate {A = ℕ} (length mem) 0) in
+      rw (← told, not-false w y, e, fresh, z)
 
 -- ---- applying
 
-module _ (b : Board) (m : Message) (t : Texts) (mem : List ℕ) {a : Applied} where
-  pub apply-unfit : (length mem ≡ 31744 → ⊥) → a ≡ denied Unfit b → outcome a mem ≡ applyOf b m t mem
+module _ (b : Board) (m : Message) (t : Texts) (mem : List ℕ) {a : Applied} {w : Bool} (told : w ≡ rowsFit (b .rows) mem) where
+  pub apply-unfit : not w ≡ true → a ≡ denied Unfit b → outcome a mem ≡ applyOf b m t mem
   unfolding applyOf fits
-  apply-unfit n e = rw (ne-eqb (length mem) 31744 n, e)
+  apply-unfit n e = rw (← told, not-true w n, e)
 
-  pub apply-many : length mem ≡ 31744 → 256 < b .rows → a ≡ denied Unfit b → outcome a mem ≡ applyOf b m t mem
+  pub apply-does : {zs : List ℕ} → not w ≡ false → outcome a zs ≡ effect b m t mem → outcome a zs ≡ applyOf b m t mem
   unfolding applyOf fits
-  apply-many y n e = rw (eq-eqb (length mem) 31744 y, lt-leb (b .rows) 256 n, e)
-
-  pub apply-does : {zs : List ℕ} → length mem ≡ 31744 → b .rows ≤ 256 → outcome a zs ≡ effect b m t mem → outcome a zs ≡ applyOf b m t mem
-  unfolding applyOf fits
-  apply-does y h e = rw (eq-eqb (length mem) 31744 y, le-leb (b .rows) 256 h) e
+  apply-does y e = rw (← told, not-false w y) e
 
 -- by the kind of a message
 module _ (b : Board) (t : Texts) (mem : List ℕ) {m : Message} {a : Applied} where

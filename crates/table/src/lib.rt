@@ -8,7 +8,7 @@ ghost use mathlib.Core.Path.{_≡_};
 ghost use Prim.Native.Nat.{_≤_, _*_, _+_};
 ghost use lib.ListN.{length};
 ghost use Rattle.row.specs.Fields.{rowSize};
-ghost use Rattle.table.specs.Memory.{mostRows, tableSize, rowFor};
+ghost use Rattle.table.specs.Memory.{isTable, rowsFit, Fitting, rowFor};
 ghost use Rattle.table.specs.Board.{refusalNumber, freshBoard, taken, denied, outcome, withEvent, withLive, startOf, directoryAt, actionAt, quoteAt, quote, applyOf, effect};
 ghost use Rattle.table.specs.declared.Found.the-variants.{At, Nothing};
 
@@ -98,6 +98,20 @@ fn refuse(r: Refusal, board: Board) -> Applied
     }
 }
 
+// Is the memory of the right length?
+pub fn is_table(table: &[u8]) -> bool
+    ensures { λ r. ⌜ r ≡ isTable (now (table .entry)) ⌝ }
+{
+    table.len() == TABLE_SIZE
+}
+
+// Is it, and has it so many rows?
+pub fn rows_fit(rows: usize, table: &[u8]) -> bool
+    ensures { λ r. ⌜ r ≡ rowsFit rows (now (table .entry)) ⌝ }
+{
+    is_table(table) & (rows <= MOST_ROWS)
+}
+
 // The first among the rows in use that has the id.
 pub fn find(table: &[u8], rows: usize, id: u32) -> Found
     requires { ⌜ rows * rowSize ≤ length (now table) ⌝ }
@@ -118,7 +132,7 @@ pub fn find(table: &[u8], rows: usize, id: u32) -> Found
 pub fn start(table: &mut [u8]) -> Applied
     ensures { λ r. ⌜ outcome r (now (table .exit)) ≡ startOf (now (table .entry)) ⌝ }
 {
-    if table.len() != TABLE_SIZE {
+    if !is_table(table) {
         return refuse(Refusal::Unfit, fresh_board());
     }
     field::fill(table, 0, TABLE_SIZE, 0);
@@ -127,7 +141,7 @@ pub fn start(table: &mut [u8]) -> Applied
 
 // A directory for an id that has no row yet.
 fn add(board: Board, d: Directory, t: Texts, table: &mut [u8]) -> Applied
-    requires { ⌜ (length (now table) ≡ tableSize) × (board .rows ≤ mostRows) ⌝ }
+    requires { ⌜ Fitting (board .rows) (now table) ⌝ }
     ensures { λ r. ⌜ outcome r (now (table .exit)) ≡ directoryAt board d t (now (table .entry)) Nothing ⌝ }
 {
     if MOST_ROWS <= board.rows {
@@ -159,7 +173,7 @@ fn relist(k: usize, board: Board, d: Directory, t: Texts, table: &mut [u8]) -> A
 }
 
 fn directory(board: Board, d: Directory, t: Texts, table: &mut [u8]) -> Applied
-    requires { ⌜ (length (now table) ≡ tableSize) × (board .rows ≤ mostRows) ⌝ }
+    requires { ⌜ Fitting (board .rows) (now table) ⌝ }
     ensures { λ r. ⌜ outcome r (now (table .exit)) ≡ directoryAt board d t (now (table .entry)) (rowFor (board .rows) (now (table .entry)) (d .instrument .id)) ⌝ }
 {
     match find(table, board.rows, d.instrument.id) {
@@ -180,7 +194,7 @@ fn act_at(k: usize, board: Board, a: TradingAction, table: &mut [u8]) -> Applied
 }
 
 fn act(board: Board, a: TradingAction, table: &mut [u8]) -> Applied
-    requires { ⌜ (length (now table) ≡ tableSize) × (board .rows ≤ mostRows) ⌝ }
+    requires { ⌜ Fitting (board .rows) (now table) ⌝ }
     ensures { λ r. ⌜ outcome r (now (table .exit)) ≡ actionAt board a (now (table .entry)) (rowFor (board .rows) (now (table .entry)) (a .id)) ⌝ }
 {
     match find(table, board.rows, a.id) {
@@ -204,7 +218,7 @@ fn quote_at(k: usize, board: Board, q: Quote, table: &mut [u8]) -> Applied
 }
 
 fn quote(board: Board, q: Quote, table: &mut [u8]) -> Applied
-    requires { ⌜ (length (now table) ≡ tableSize) × (board .rows ≤ mostRows) ⌝ }
+    requires { ⌜ Fitting (board .rows) (now table) ⌝ }
     ensures { λ r. ⌜ outcome r (now (table .exit)) ≡ quote board q (now (table .entry)) ⌝ }
 {
     match find(table, board.rows, q.id) {
@@ -234,7 +248,7 @@ fn with_live(number: u64, board: Board) -> Board
 }
 
 fn dispatch(board: Board, message: Message, texts: Texts, table: &mut [u8]) -> Applied
-    requires { ⌜ (length (now table) ≡ tableSize) × (board .rows ≤ mostRows) ⌝ }
+    requires { ⌜ Fitting (board .rows) (now table) ⌝ }
     ensures { λ r. ⌜ outcome r (now (table .exit)) ≡ effect board message texts (now (table .entry)) ⌝ }
 {
     match message {
@@ -253,10 +267,7 @@ fn dispatch(board: Board, message: Message, texts: Texts, table: &mut [u8]) -> A
 pub fn apply(board: Board, message: Message, texts: Texts, table: &mut [u8]) -> Applied
     ensures { λ r. ⌜ outcome r (now (table .exit)) ≡ applyOf board message texts (now (table .entry)) ⌝ }
 {
-    if table.len() != TABLE_SIZE {
-        return refuse(Refusal::Unfit, board);
-    }
-    if MOST_ROWS < board.rows {
+    if !rows_fit(board.rows, table) {
         return refuse(Refusal::Unfit, board);
     }
     dispatch(board, message, texts, table)
