@@ -1,82 +1,45 @@
 -- What a message does: a refused one leaves the table, and an accepted one keeps it sound.
 -- Assumes nothing.
 use mathlib.Core.Path.{_≡_, refl, sym, ap, _∙_, subst}
-use mathlib.Core.Bool.{true}
+use mathlib.Core.Bool.{true, false}
 use mathlib.Core.List.{List}
 use Prim.Native.Nat.{ℕ}
-use borrow.Author.Tests.{eq-eqb, le-leb}
-use lib.Dec.{leb}
-use lib.ListN.{length}
+use lib.Dec.{eqb}
 use Rattle.field.specs.Bytes.{Bytes}
 use Rattle.message.specs.Message as messages
 use Rattle.message.specs.Message.{readOf}
 use Rattle.message.specs.declared.Message.{Message}
-use Rattle.message.specs.declared.Message.the-variants as message
-use Rattle.message.specs.declared.Directory.{Directory}
-use Rattle.message.specs.declared.TradingAction.{TradingAction}
 use Rattle.message.specs.declared.Texts.{Texts}
 use Rattle.message.specs.declared.Answer as answers
 use Rattle.message.specs.declared.Answer.the-variants as answer
 use Rattle.message.specs.declared.Refusal as messageRefusal
 use Rattle.message.specs.declared.Refusal.the-variants as messageRefusals
-use Rattle.row.specs.Fields.{takesQuote}
-use Rattle.row.specs.Changes.{unchanged}
-use Rattle.row.specs.declared.Quote.{Quote}
 use Rattle.message.proofs.Typed.{read-typed}
 use Rattle.packet.specs.Session.{Delivered, done, denied}
-use Rattle.packet.proofs.Rules.{both, never}
-use Rattle.table.specs.Memory.{mostRows, tableSize, row, rowFor}
+use Rattle.packet.proofs.Rules.{never}
 use Rattle.table.specs.Board as tables
-use Rattle.table.specs.Board.{Outcome, outcome, accepted, fits, directoryAt, actionAt, quoteAt, quote, ofShortQuote, ofLongQuote, ofShortSide, ofLongSide, effect, applyOf}
+use Rattle.table.specs.Board.{Outcome, outcome, accepted, fits, applyOf}
 use Rattle.table.specs.declared.Board.{Board}
-use Rattle.table.specs.declared.Found.{Found}
-use Rattle.table.specs.declared.Found.the-variants.{At, Nothing}
+use Rattle.table.specs.declared.Refusal.{Refusal}
+use Rattle.table.specs.declared.Refusal.the-variants.{Unfit, NoRow, NoQuotes, FixedField, TableFull}
 use Rattle.table.specs.declared.Verdict.{Verdict}
 use Rattle.table.specs.declared.Verdict.the-variants.{Accepted, Refused}
+use Rattle.table.proofs.Ways.{fitting-rows}
 use Rattle.table.proofs.Kept.{apply-sound, apply-board}
+use Rattle.table.proofs.Exactly.{LeftBy, apply-leaves}
 use Rattle.reader.specs.Refusals.{standing}
 use Rattle.reader.specs.Deliver.{Table, tableOf, Said, said, settledBy, heard, deliver}
 use Rattle.demands.specs.Sound.{SoundTable}
 
--- ---- a refusal of the table leaves board and memory, and may stand where they fit
+-- ---- a refusal of the table other than 20 may stand
 
-abbrev LeftBy : Board → List ℕ → Verdict → Board → List ℕ → Type 0
-LeftBy b mem Accepted b′ mem′ = Unit
-LeftBy b mem (Refused r) b′ mem′ = (b′ ≡ b) × (mem′ ≡ mem) × (fits b mem ≡ true → standing (tables.refusalNumber r) ≡ true)
-
-abbrev Left : Board → List ℕ → Outcome → Type 0
-Left b mem o = LeftBy b mem (o .applied .verdict) (o .applied .board) (o .memory)
-
-module _ (b : Board) (mem : List ℕ) where
-  directory-left : (d : Directory) (t : Texts) (w : Found) → Left b mem (directoryAt b d t mem w)
-  unfolding directoryAt standing
-  directory-left d t (At k) = both (Left b mem) (unchanged (d .instrument) t (row k mem)) (λ _. tt) (λ _. (refl, refl, λ _. refl))
-  directory-left d t Nothing = both (Left b mem) (leb mostRows (b .rows)) (λ _. (refl, refl, λ _. refl)) (λ _. tt)
-
-  action-left : (a : TradingAction) (w : Found) → Left b mem (actionAt b a mem w)
-  unfolding actionAt standing
-  action-left a (At k) = tt
-  action-left a Nothing = (refl, refl, λ _. refl)
-
-  quote-left : (q : Quote) (w : Found) → Left b mem (quoteAt b q mem w)
-  unfolding quoteAt standing
-  quote-left q (At k) = both (Left b mem) (takesQuote (row k mem)) (λ _. tt) (λ _. (refl, refl, λ _. refl))
-  quote-left q Nothing = (refl, refl, λ _. refl)
-
-  effect-left : (m : Message) (t : Texts) → Left b mem (effect b m t mem)
-  unfolding effect quote
-  effect-left (message.SystemEvent m) t = tt
-  effect-left (message.Directory m) t = directory-left m t (rowFor (b .rows) mem (m .instrument .id))
-  effect-left (message.TradingAction m) t = action-left m (rowFor (b .rows) mem (m .id))
-  effect-left (message.ShortQuote m) t = quote-left (ofShortQuote m) (rowFor (b .rows) mem (m .id))
-  effect-left (message.LongQuote m) t = quote-left (ofLongQuote m) (rowFor (b .rows) mem (m .id))
-  effect-left (message.ShortSide m) t = quote-left (ofShortSide m) (rowFor (b .rows) mem (m .id))
-  effect-left (message.LongSide m) t = quote-left (ofLongSide m) (rowFor (b .rows) mem (m .id))
-  effect-left (message.EndOfReplay m) t = tt
-
-  apply-left : (m : Message) (t : Texts) → Left b mem (applyOf b m t mem)
-  unfolding applyOf
-  apply-left m t = both (Left b mem) (fits b mem) (λ _. effect-left m t) (λ e. (refl, refl, λ f. absurd (never (sym e ∙ f))))
+refusal-stands : (r : Refusal) → eqb (tables.refusalNumber r) 20 ≡ false → standing (tables.refusalNumber r) ≡ true
+unfolding standing
+refusal-stands Unfit e = absurd (never (sym e))
+refusal-stands NoRow e = refl
+refusal-stands NoQuotes e = refl
+refusal-stands FixedField e = refl
+refusal-stands TableFull e = refl
 
 -- ---- A REFUSED MESSAGE LEAVES THE TABLE
 
@@ -92,7 +55,7 @@ heard-undone : (t : Table) (texts : Texts) (a : answers.Answer) → Undone t (he
 heard-undone t texts (answer.Refused r) = refl
 heard-undone t texts (answer.Is m) =
     let o = applyOf (t .board) m texts (t .memory) in
-    settled-undone t (said m texts) (o .applied .verdict) (o .applied .board) (o .memory) (apply-left (t .board) (t .memory) m texts)
+    settled-undone t (said m texts) (o .applied .verdict) (o .applied .board) (o .memory) (apply-leaves (t .board) m texts (t .memory))
 
 pub deliver-undone : (t t′ : Table) (body : List ℕ) (n : ℕ) → deliver t body ≡ denied n t′ → t′ ≡ t
 unfolding deliver
@@ -102,7 +65,7 @@ deliver-undone t t′ body n e = subst (Undone t) e (heard-undone t (readOf body
 
 pub sound-fits : (t : Table) → SoundTable t → fits (t .board) (t .memory) ≡ true
 unfolding fits
-sound-fits t s = rw (eq-eqb (length (t .memory)) tableSize (s .rows .sized), le-leb (t .board .rows) mostRows (s .rows .few))
+sound-fits t s = fitting-rows (t .board .rows) (t .memory) (s .rows .sized, s .rows .few)
 
 abbrev pub Delivers : Delivered Table Said → Type 0
 Delivers (done x t) = SoundTable t
@@ -117,7 +80,7 @@ read-stands messageRefusals.BadField = refl
 settled-kept : (t : Table) (x : Said) (v : Verdict) (b : Board) (mem : List ℕ) → SoundTable t → LeftBy (t .board) (t .memory) v b mem
     → (v ≡ Accepted → SoundTable (tableOf b mem)) → Delivers (settledBy v x (tableOf b mem))
 settled-kept t x Accepted b mem s h k = k refl
-settled-kept t x (Refused r) b mem s h k = (rw (h .0, h .1) s, h .2 (sound-fits t s))
+settled-kept t x (Refused r) b mem s h k = (rw (h .0, h .1) s, refusal-stands r (h .2 (sound-fits t s)))
 
 applied-sound : (t : Table) (m : Message) (texts : Texts) → SoundTable t → messages.Typed m texts × (messages.keeps m texts ≡ true)
     → (o : Outcome) → applyOf (t .board) m texts (t .memory) ≡ o → o .applied .verdict ≡ Accepted → SoundTable (tableOf (o .applied .board) (o .memory))
@@ -134,7 +97,7 @@ heard-kept : (t : Table) (texts : Texts) (a : answers.Answer) → SoundTable t
 heard-kept t texts (answer.Refused r) s f = (s, read-stands r)
 heard-kept t texts (answer.Is m) s f =
     let o = applyOf (t .board) m texts (t .memory) in
-    settled-kept t (said m texts) (o .applied .verdict) (o .applied .board) (o .memory) s (apply-left (t .board) (t .memory) m texts)
+    settled-kept t (said m texts) (o .applied .verdict) (o .applied .board) (o .memory) s (apply-leaves (t .board) m texts (t .memory))
     (applied-sound t m texts s (f m refl) o refl)
 
 pub deliver-kept : (t : Table) (body : List ℕ) → Bytes body → SoundTable t → Delivers (deliver t body)
@@ -153,13 +116,13 @@ DeniedStands (denied n t) = standing n ≡ true
 settled-stands : (t : Table) (x : Said) (v : Verdict) (b : Board) (mem : List ℕ) → fits (t .board) (t .memory) ≡ true
     → LeftBy (t .board) (t .memory) v b mem → DeniedStands (settledBy v x (tableOf b mem))
 settled-stands t x Accepted b mem f h = tt
-settled-stands t x (Refused r) b mem f h = h .2 f
+settled-stands t x (Refused r) b mem f h = refusal-stands r (h .2 f)
 
 heard-stands : (t : Table) (texts : Texts) (a : answers.Answer) → fits (t .board) (t .memory) ≡ true → DeniedStands (heard t texts a)
 heard-stands t texts (answer.Refused r) f = read-stands r
 heard-stands t texts (answer.Is m) f =
     let o = applyOf (t .board) m texts (t .memory) in
-    settled-stands t (said m texts) (o .applied .verdict) (o .applied .board) (o .memory) f (apply-left (t .board) (t .memory) m texts)
+    settled-stands t (said m texts) (o .applied .verdict) (o .applied .board) (o .memory) f (apply-leaves (t .board) m texts (t .memory))
 
 pub deliver-stands : (t : Table) (body : List ℕ) → fits (t .board) (t .memory) ≡ true → DeniedStands (deliver t body)
 unfolding deliver

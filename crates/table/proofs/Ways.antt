@@ -23,7 +23,7 @@ use Rattle.row.specs.Fields.{takesQuote}
 use Rattle.row.specs.Changes.{changed, unchanged, newRow, directoryChanges, actionChanges, quoteChanges}
 use Rattle.row.specs.declared.Quote.{Quote}
 use Rattle.table.specs.Memory.{mostRows, tableSize, isTable, rowsFit, Fitting, row, withRow, rowFor}
-use Rattle.table.specs.Board.{outcome, taken, denied, freshBoard, oneMore, withEvent, withLive, fits, startOf, directoryAt, actionAt, quoteAt, quote, effect, applyOf}
+use Rattle.table.specs.Board.{outcome, taken, denied, freshBoard, oneMore, withEvent, withLive, fits, startOf, directoryAt, actionAt, quoteAt, effectAt, effect, applyOf}
 use Rattle.table.specs.declared.Found.{Found}
 use Rattle.table.specs.declared.Found.the-variants.{At, Nothing}
 use Rattle.table.specs.declared.Board.{Board}
@@ -106,13 +106,13 @@ module _ (mem : List ℕ) (b : Board) {w : Found} {a : Applied} {zs : List ℕ} 
   action-found m w′ p e f = rw (← p, e) f
 
   pub quote-found : (q : Quote) (w′ : Found) → w ≡ rowFor (b .rows) mem (q .id) → w ≡ w′
-      → outcome a zs ≡ quoteAt b q mem w′ → outcome a zs ≡ quote b q mem
-  unfolding quote
+      → outcome a zs ≡ quoteAt b q mem w′ → outcome a zs ≡ quoteAt b q mem (rowFor (b .rows) mem (q .id))
   quote-found q w′ p e f = rw (← p, e) f
 
 module _ (mem : List ℕ) (b : Board) {w : Found} {a : Applied} where
-  pub quote-none : (q : Quote) → w ≡ rowFor (b .rows) mem (q .id) → w ≡ Nothing → a ≡ denied NoRow b → outcome a mem ≡ quote b q mem
-  unfolding quote quoteAt
+  pub quote-none : (q : Quote) → w ≡ rowFor (b .rows) mem (q .id) → w ≡ Nothing → a ≡ denied NoRow b
+      → outcome a mem ≡ quoteAt b q mem (rowFor (b .rows) mem (q .id))
+  unfolding quoteAt
   quote-none q p e f = rw (← p, e, f)
 
   pub action-none : (m : TradingAction) → w ≡ rowFor (b .rows) mem (m .id) → w ≡ Nothing → a ≡ denied NoRow b
@@ -169,11 +169,11 @@ module _ (b : Board) (m : Message) (t : Texts) (mem : List ℕ) {a : Applied} {w
 -- by the kind of a message
 module _ (b : Board) (t : Texts) (mem : List ℕ) {m : Message} {a : Applied} where
   pub event-told : (e : SystemEvent) {b′ : Board} → m ≡ message.SystemEvent e → b′ ≡ withEvent (e .code) b → a ≡ taken b′ → outcome a mem ≡ effect b m t mem
-  unfolding effect
+  unfolding effect effectAt
   event-told e i p f = rw (i, f, p)
 
   pub live-told : (e : EndOfReplay) {b′ : Board} → m ≡ message.EndOfReplay e → b′ ≡ withLive (e .number) b → a ≡ taken b′ → outcome a mem ≡ effect b m t mem
-  unfolding effect
+  unfolding effect effectAt
   live-told e i p f = rw (i, f, p)
 
   -- the message is another, whose effect is told
@@ -181,6 +181,6 @@ module _ (b : Board) (t : Texts) (mem : List ℕ) {m : Message} {a : Applied} wh
   told m′ i f = rw i f
 
   -- and so with a quote of any of the six letters
-  pub quote-told : (m′ : Message) (q′ : Quote) {q : Quote} {zs : List ℕ} → m ≡ m′ → effect b m′ t mem ≡ quote b q′ mem → q ≡ q′
-      → outcome a zs ≡ quote b q mem → outcome a zs ≡ effect b m t mem
+  pub quote-told : (m′ : Message) (q′ : Quote) {q : Quote} {zs : List ℕ} → m ≡ m′ → effect b m′ t mem ≡ quoteAt b q′ mem (rowFor (b .rows) mem (q′ .id))
+      → q ≡ q′ → outcome a zs ≡ quoteAt b q mem (rowFor (b .rows) mem (q .id)) → outcome a zs ≡ effect b m t mem
   quote-told m′ q′ i g p f = rw (i, g, ← p) f

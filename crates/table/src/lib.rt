@@ -9,7 +9,7 @@ ghost use Prim.Native.Nat.{_≤_, _*_, _+_};
 ghost use lib.ListN.{length};
 ghost use Rattle.row.specs.Fields.{rowSize};
 ghost use Rattle.table.specs.Memory.{isTable, rowsFit, Fitting, rowFor};
-ghost use Rattle.table.specs.Board.{refusalNumber, freshBoard, taken, denied, outcome, withEvent, withLive, startOf, directoryAt, actionAt, quoteAt, quote, applyOf, effect};
+ghost use Rattle.table.specs.Board.{refusalNumber, freshBoard, taken, denied, outcome, withEvent, withLive, startOf, directoryAt, actionAt, quoteAt, applyOf, effect};
 ghost use Rattle.table.specs.declared.Found.the-variants.{At, Nothing};
 
 mod quotes;
@@ -219,7 +219,7 @@ fn quote_at(k: usize, board: Board, q: Quote, table: &mut [u8]) -> Applied
 
 fn quote(board: Board, q: Quote, table: &mut [u8]) -> Applied
     requires { ⌜ Fitting (board .rows) (now table) ⌝ }
-    ensures { λ r. ⌜ outcome r (now (table .exit)) ≡ quote board q (now (table .entry)) ⌝ }
+    ensures { λ r. ⌜ outcome r (now (table .exit)) ≡ quoteAt board q (now (table .entry)) (rowFor (board .rows) (now (table .entry)) (q .id)) ⌝ }
 {
     match find(table, board.rows, q.id) {
         Found::At(k) => quote_at(k, board, q, table),
