@@ -16,7 +16,7 @@ use Rattle.field.proofs.Writes.{piece, run-joined}
 use Rattle.message.specs.Letters.{listed, eventCodes}
 use Rattle.block.specs.Block.{blockSize, headSize, bodySize, headAt}
 use Rattle.block.specs.declared.Head.{Head}
-use Rattle.table.specs.Memory.{mostRows, tableSize}
+use Rattle.table.specs.Memory.{mostRows, rowsFit}
 use Rattle.table.specs.Board.{freshBoard, fits}
 use Rattle.table.specs.Rules.{boardKeeps}
 use Rattle.table.specs.declared.Board.{Board}
@@ -44,10 +44,9 @@ pub header-keeps : (h : Header) {b f : Bool} → b ≡ boardKeeps (h .board) →
 unfolding headerKeeps
 header-keeps h e f = rw (e, f)
 
-pub within-limits : (h : Header) (mem : List ℕ) {r : Bool} → r ≡ numberInRange (h .next)
-    → (eqb (length mem) tableSize && leb (h .board .rows) mostRows) && r ≡ withinLimits h mem
+pub within-limits : (h : Header) (mem : List ℕ) {w r : Bool} → w ≡ rowsFit (h .board .rows) mem → r ≡ numberInRange (h .next) → w && r ≡ withinLimits h mem
 unfolding withinLimits fits
-within-limits h mem e = rw e
+within-limits h mem e f = rw (e, f)
 
 pub facts-keep : (image : List ℕ) {known : ℕ} {z : Bool} → known ≡ be (part image 24 1)
     → z ≡ every isZero (part image (headSize + factsSize) (bodySize - factsSize)) → leb known 1 && z ≡ factsKeep image

@@ -4,7 +4,6 @@ use mathlib.Core.Path.{_≡_, sym, ap, _∙_}
 use mathlib.Core.Bool.{Bool, true, false, cond}
 use mathlib.Core.List.{List}
 use Prim.Native.Nat.{ℕ, _≤_}
-use lib.Dec.{eqb}
 use lib.ListN.{length, replicate}
 use Rattle.field.specs.Bytes.{part, overlay}
 use Rattle.field.specs.Limits.{numberInRange}
@@ -12,7 +11,7 @@ use Rattle.message.specs.Letters.{listed}
 use Rattle.message.specs.Message.{Typed, keeps}
 use Rattle.message.specs.declared.Message.{Message}
 use Rattle.message.specs.declared.Texts.{Texts}
-use Rattle.table.specs.Memory.{tableSize}
+use Rattle.table.specs.Memory.{tableSize, isTable}
 use Rattle.table.specs.Board.{Outcome, freshBoard, accepted, refused, startOf, applyOf}
 use Rattle.table.specs.Rules.{Sound, boardKeeps}
 use Rattle.table.specs.declared.Board.{Board}
@@ -33,7 +32,7 @@ pub data Made : Board → List ℕ → Type 0 where
 
 start-board : (mem mem′ : List ℕ) (b : Board) → startOf mem ≡ accepted b mem′ → boardKeeps b ≡ true
 unfolding startOf boardKeeps listed
-start-board mem mem′ b e = by (eqb (length mem) tableSize) e
+start-board mem mem′ b e = by (isTable mem) e
   where
     by : (y : Bool) → cond y (accepted freshBoard (replicate (length mem) 0)) (refused Unfit freshBoard mem) ≡ accepted b mem′ → boardKeeps b ≡ true
     by true i = ap (λ (o : Outcome). boardKeeps (o .applied .board)) (sym i)

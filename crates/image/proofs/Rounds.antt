@@ -17,7 +17,7 @@ use Rattle.field.proofs.Parts.{part-overlay}
 use Rattle.message.specs.Letters.{listed, eventCodes}
 use Rattle.message.proofs.Typed.{listed-below}
 use Rattle.block.specs.Block.{blockSize}
-use Rattle.table.specs.Memory.{mostRows, tableSize, rowAt}
+use Rattle.table.specs.Memory.{mostRows, tableSize, isTable, rowAt}
 use Rattle.table.specs.Board.{fits}
 use Rattle.table.specs.Rules.{rowsKeep, Sound, boardKeeps}
 use Rattle.image.specs.Shape.{blocksFor}
@@ -101,14 +101,14 @@ saved-restored h mem out old z n ten lo e =
     let k = stored h mem out n z e in
     let fit : HeaderFits h = header-fits h mem ten (k .within) (k .header) in
     let m = limits h mem (k .within) in
-    let il : length (imageOf h mem) ≡ n = image-length h mem fit (m .sized) (m .few) ∙ sym (k .size) in
+    let il : length (imageOf h mem) ≡ n = image-length h mem fit (m .0) (m .1) ∙ sym (k .size) in
     let p : part z 0 n ≡ imageOf h mem = rw (k .bytes, ← il) (part-overlay out 0 (imageOf h mem) (omega (arith, k .room, k .size))) in
     rw (
       p,
       eq-eqb (length old) tableSize lo,
-      image-accepted h mem fit (m .sized) (m .few) (next-range h mem (k .within)) (k .header) (k .rows),
-      header-back h mem fit (m .sized) (m .few),
-      memory-back h mem fit (m .sized) (m .few),
+      image-accepted h mem fit (m .0) (m .1) (next-range h mem (k .within)) (k .header) (k .rows),
+      header-back h mem fit (m .0) (m .1),
+      memory-back h mem fit (m .0) (m .1),
     )
 
 -- ---- what it means that an image was restored
@@ -128,8 +128,8 @@ pub taken : (image old mem : List ℕ) (h : Header) → restoreOf image old ≡ 
     → (verdictOf image ≡ Accepted) × (h ≡ headerOf image) × (mem ≡ memoryOf image)
 unfolding restoreOf
 taken image old mem h e =
-    let t = taken-if (cond (eqb (length old) tableSize) (verdictOf image) (Refused Unfit)) image old mem h e in
-    (sized-if (eqb (length old) tableSize) (verdictOf image) (t .0), t .1, t .2)
+    let t = taken-if (cond (isTable old) (verdictOf image) (Refused Unfit)) image old mem h e in
+    (sized-if (isTable old) (verdictOf image) (t .0), t .1, t .2)
 
 -- SAVING WHAT WAS RESTORED GIVES THE SAME BYTES
 pub restored-saved : (image old out mem : List ℕ) (h : Header) → Bytes image → restoreOf image old ≡ restoring (restored Accepted h) mem → length image ≤ length out

@@ -5,13 +5,13 @@ use mathlib.Core.Bool.{Bool, true, false, _&&_, cond}
 use mathlib.Core.List.{List}
 use Prim.Native.Nat.{ℕ, _*_, _<_}
 use native.Mathlib.Omega.{arith}
-use lib.Dec.{eqb, leb}
+use lib.Dec.{leb}
 use lib.ListN.{length}
 use Rattle.field.specs.Bytes.{overlay}
 use Rattle.field.specs.Limits.{numberInRange}
 use Rattle.field.proofs.Answers.{equal-answers}
 use Rattle.block.specs.Block.{blockSize, checkKeeps}
-use Rattle.table.specs.Memory.{tableSize}
+use Rattle.table.specs.Memory.{isTable}
 use Rattle.table.specs.Rules.{rowsKeep}
 use Rattle.image.specs.Header.{freshHeader, withinLimits, headerKeeps, headerOf}
 use Rattle.image.specs.Save.{imageOf, sizeFor, Saving, saving, unsaved, saveOf}
@@ -72,7 +72,7 @@ refused-by (Refused q) image mem z h r e = (sym (ap (λ (s : Restoring). s .answ
 -- A REFUSED RESTORING LEAVES TABLE MEMORY, and its header is that of a fresh reader
 pub refused-leaves : (image mem z : List ℕ) (h : Header) (r : Refusal) → restoreOf image mem ≡ restoring (restored (Refused r) h) z → (h ≡ freshHeader) × (z ≡ mem)
 unfolding restoreOf
-refused-leaves image mem z h r e = refused-by (cond (eqb (length mem) tableSize) (verdictOf image) (Refused Unfit)) image mem z h r e
+refused-leaves image mem z h r e = refused-by (cond (isTable mem) (verdictOf image) (Refused Unfit)) image mem z h r e
 
 -- ---- equal answers
 

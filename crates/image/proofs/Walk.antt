@@ -1,22 +1,23 @@
 -- The rules of rows where they lie: the rows' own, and no id twice.
 -- Assumes nothing.
 use mathlib.Core.Path.{_≡_, refl, sym, ap, _∙_}
-use mathlib.Core.Bool.{Bool, true, false, _&&_, not, and-false}
+use mathlib.Core.Bool.{Bool, true, false, _&&_, not}
 use mathlib.Core.List.{List}
 use Prim.Native.Nat.{ℕ, zero, suc, _+_, _-_, _≤_, _<_}
-use native.Mathlib.Nat.{zero-add, suc-add}
 use native.Mathlib.Numerals.{add-one}
 use native.Mathlib.Omega.{arith}
+use borrow.Author.Tests.{eq-eqb, ne-eqb}
+use lib.Dec.{eqb}
 use lib.ListN.{take, drop}
 use Rattle.field.specs.Bytes.{part, be}
 use Rattle.row.specs.Fields.{rowSize, idOf}
 use Rattle.row.specs.Rules.{rowKeeps}
-use Rattle.table.specs.Memory.{row, firstFrom, rowFor}
-use Rattle.table.specs.Rules.{isNone, newId, rowsKeep}
-use Rattle.table.specs.declared.Found.{Found}
-use Rattle.table.proofs.Search.{row-id, search-hit, search-miss, search-ends, same-row}
-use Rattle.image.specs.Shape.{pagesFor, pages, PagesIn, placeOf}
-use Rattle.image.proofs.Below.{was-no, was-yes}
+use Rattle.table.specs.Memory.{row}
+use Rattle.table.specs.Rules.{lacks, newId, rowsKeep}
+use Rattle.table.proofs.Search.{row-id}
+use Rattle.table.proofs.Rows.{lacks-same}
+use Rattle.image.specs.Shape.{pagesFor, pages, PagesIn, placeOf, allBelow}
+use Rattle.image.proofs.Below.{was-no, was-yes, below-turn, below-stop, below-end}
 use Rattle.image.proofs.Laid.{row-page, fewer-pages, place-row, place-id}
 
 -- ---- the rules look at the rows alone
@@ -24,7 +25,7 @@ use Rattle.image.proofs.Laid.{row-page, fewer-pages, place-row, place-i
 pub new-equal : (k : ℕ) (a b : List ℕ) → ((j : ℕ) → j < suc k → row j a ≡ row j b) → newId k a ≡ newId k b
 unfolding newId
 new-equal k a b s =
-    rw (s k (omega arith), same-row k b a (idOf (row k b)) (λ j h. ap idOf (s j (omega arith))))
+    rw (s k (omega arith), lacks-same k b a (idOf (row k b)) (λ j h. ap idOf (s j (omega arith))))
 
 pub rows-equal : (rows : ℕ) (a b : List ℕ) → ((j : ℕ) → j < rows → row j a ≡ row j b) → rowsKeep rows a ≡ rowsKeep rows b
 unfolding rowsKeep
@@ -32,31 +33,58 @@ rows-equal zero a b s = refl
 rows-equal (suc n) a b s =
     rw (rows-equal n a b (λ j h. s j (omega arith)), s n (omega arith), new-equal n a b (λ j h. s j (omega arith)))
 
+-- ---- and they are tests of every row
+
+abbrev otherId : List ℕ → ℕ → ℕ → Bool
+otherId mem id j = not (eqb (idOf (row j mem)) id)
+
+lacks-below : (n : ℕ) (mem : List ℕ) (id : ℕ) → allBelow (otherId mem id) n ≡ lacks n mem id
+unfolding allBelow lacks
+lacks-below zero mem id = refl
+lacks-below (suc n) mem id = rw (lacks-below n mem id)
+
+abbrev goodRow : List ℕ → ℕ → Bool
+goodRow mem k = rowKeeps (row k mem) && newId k mem
+
+keep-below : (n : ℕ) (mem : List ℕ) → allBelow (goodRow mem) n ≡ rowsKeep n mem
+unfolding allBelow rowsKeep
+keep-below zero mem = refl
+keep-below (suc n) mem = rw (keep-below n mem)
+
 -- ---- is the id of row k new?
 
+pub lacks-none : (mem : List ℕ) (id : ℕ) → lacks 0 mem id ≡ true
+unfolding lacks
+lacks-none mem id = refl
+
 module _ (s : List ℕ) (base stride k at id j : ℕ) (f : PagesIn s base stride (pagesFor (k + 1))) (ea : at ≡ placeOf base stride k)
-    (ei : id ≡ be (part s at 4)) (so-far : rowFor k (pages s base stride (pagesFor (k + 1))) id ≡ firstFrom j (k - j) (pages s base stride (pagesFor (k + 1))) id) where
+    (ei : id ≡ be (part s at 4)) (so-far : lacks j (pages s base stride (pagesFor (k + 1))) id ≡ true) where
   own-id : id ≡ idOf (row k (pages s base stride (pagesFor (k + 1))))
   own-id = ei ∙ rw ea (place-id s base stride (pagesFor (k + 1)) k f (row-page (k + 1) k (omega arith))) ∙ row-id k _
 
-  answer : {w : Found} → w ≡ rowFor k (pages s base stride (pagesFor (k + 1))) id → isNone w ≡ newId k (pages s base stride (pagesFor (k + 1)))
+  answer : {r : Bool} → r ≡ lacks k (pages s base stride (pagesFor (k + 1))) id → r ≡ newId k (pages s base stride (pagesFor (k + 1)))
   unfolding newId
-  answer e = rw (e, ← own-id)
+  answer e = rw (← own-id) e
 
-  pub id-twice : (o x : ℕ) → j < k → o ≡ placeOf base stride j → x ≡ be (part s o 4) → x ≡ id
-      → false ≡ newId k (pages s base stride (pagesFor (k + 1)))
-  id-twice o x h eo ex e =
-      answer (search-hit (pages s base stride (pagesFor (k + 1))) k id j so-far x h
-      (ex ∙ rw eo (place-id s base stride (pagesFor (k + 1)) j f (row-page (k + 1) j (omega arith)))) e)
+  module _ (o x : ℕ) (h : j < k) (eo : o ≡ placeOf base stride j) (ex : x ≡ be (part s o 4)) where
+    there : x ≡ idOf (row j (pages s base stride (pagesFor (k + 1))))
+    there = ex ∙ rw eo (place-id s base stride (pagesFor (k + 1)) j f (row-page (k + 1) j (omega arith))) ∙ row-id j _
 
-  pub id-other : (o x : ℕ) → j < k → o ≡ placeOf base stride j → x ≡ be (part s o 4) → (x ≡ id → ⊥)
-      → rowFor k (pages s base stride (pagesFor (k + 1))) id ≡ firstFrom (j + 1) (k - (j + 1)) (pages s base stride (pagesFor (k + 1))) id
-  id-other o x h eo ex e =
-      search-miss (pages s base stride (pagesFor (k + 1))) k id j so-far x h
-      (ex ∙ rw eo (place-id s base stride (pagesFor (k + 1)) j f (row-page (k + 1) j (omega arith)))) e
+    pub id-twice : x ≡ id → false ≡ newId k (pages s base stride (pagesFor (k + 1)))
+    id-twice e =
+        let mem = pages s base stride (pagesFor (k + 1)) in
+        answer (below-stop (otherId mem id) j k h (ap not (eq-eqb (idOf (row j mem)) id (sym there ∙ e))) ∙ lacks-below k mem id)
 
-  pub id-new : k ≤ j → true ≡ newId k (pages s base stride (pagesFor (k + 1)))
-  id-new h = answer (search-ends (pages s base stride (pagesFor (k + 1))) k id j so-far h)
+    pub id-other : (x ≡ id → ⊥) → lacks (j + 1) (pages s base stride (pagesFor (k + 1))) id ≡ true
+    id-other e =
+        let mem = pages s base stride (pagesFor (k + 1)) in
+        sym (lacks-below (j + 1) mem id)
+        ∙ below-turn (otherId mem id) j (lacks-below j mem id ∙ so-far) (ap not (ne-eqb (idOf (row j mem)) id (λ g. e (there ∙ g))))
+
+  pub id-new : j ≤ k → k ≤ j → true ≡ newId k (pages s base stride (pagesFor (k + 1)))
+  id-new h g =
+      let mem = pages s base stride (pagesFor (k + 1)) in
+      answer (below-end (otherId mem id) j k h g (lacks-below j mem id ∙ so-far) ∙ lacks-below k mem id)
 
 -- ---- the walk over the rows
 
@@ -64,18 +92,11 @@ pub keep-none : (mem : List ℕ) → rowsKeep 0 mem ≡ true
 unfolding rowsKeep
 keep-none mem = refl
 
-keep-fails : (mem : List ℕ) (k d : ℕ) → rowKeeps (row k mem) && newId k mem ≡ false → rowsKeep (suc (d + k)) mem ≡ false
-unfolding rowsKeep
-keep-fails mem k zero e = rw (zero-add, e) (and-false (rowsKeep k mem))
-keep-fails mem k (suc d) e = rw (suc-add, keep-fails mem k d e)
-
-keep-stop : (mem : List ℕ) (k rows : ℕ) → k < rows → rowKeeps (row k mem) && newId k mem ≡ false → false ≡ rowsKeep rows mem
-keep-stop mem k rows h e =
-    let d : suc (rows - k - 1 + k) ≡ rows = omega arith in
-    rw d at (sym (keep-fails mem k (rows - k - 1) e))
+keep-stop : (mem : List ℕ) (k rows : ℕ) → k < rows → goodRow mem k ≡ false → false ≡ rowsKeep rows mem
+keep-stop mem k rows h e = below-stop (goodRow mem) k rows h e ∙ keep-below rows mem
 
 pub keep-end : (mem : List ℕ) (k rows : ℕ) → k ≤ rows → rows ≤ k → rowsKeep k mem ≡ true → true ≡ rowsKeep rows mem
-keep-end mem k rows h g e = let d : k ≡ rows = omega arith in rw d at (sym e)
+keep-end mem k rows h g e = below-end (goodRow mem) k rows h g (keep-below k mem ∙ e) ∙ keep-below rows mem
 
 lent : (s : List ℕ) (at : ℕ) → take (at + rowSize - at) (drop at s) ≡ part s at rowSize
 unfolding part

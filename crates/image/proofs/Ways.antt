@@ -6,16 +6,16 @@ use mathlib.Core.List.{List, _++_}
 use Prim.Native.Nat.{ℕ, _+_, _-_, _*_, _≤_, _<_}
 use native.Mathlib.Nat.{zero-add}
 use native.Mathlib.Omega.{arith}
-use lib.Dec.{eqb, leb}
 use lib.ListN.{length, replicate}
-use borrow.Author.Tests.{eq-eqb, ne-eqb, le-leb, lt-leb, eqb-true, leb-true}
+use borrow.Author.Tests.{le-leb, lt-leb}
 use Rattle.field.specs.Bytes.{part, overlay}
-use Rattle.field.proofs.Bools.{both-left, both-right}
+use Rattle.field.proofs.Bools.{both-left}
 use Rattle.field.proofs.Parts.{part-part}
 use Rattle.block.specs.Block.{blockSize, bodySize}
 use Rattle.row.specs.Fields.{rowSize}
-use Rattle.table.specs.Memory.{mostRows, tableSize, row, rowAt}
+use Rattle.table.specs.Memory.{tableSize, isTable, rowsFit, Fitting, row, rowAt}
 use Rattle.table.specs.Board.{fits}
+use Rattle.table.proofs.Ways.{rows-fitting}
 use Rattle.table.specs.Rules.{rowsKeep}
 use Rattle.image.specs.Shape.{pagesFor, blocksFor, pages, PagesIn, firstPage}
 use Rattle.image.specs.Header.{freshHeader, withinLimits, headerKeeps, headerOf}
@@ -39,9 +39,9 @@ pub row-start : (mem : List ℕ) (j n : ℕ) → rowAt j + rowSize ≤ n → row
 unfolding row
 row-start mem j n h = part-part mem 0 n (rowAt j) rowSize h ∙ rw zero-add
 
-pub table-pages : (mem : List ℕ) (rows : ℕ) → length mem ≡ tableSize → rows ≤ mostRows → PagesIn mem 0 bodySize (pagesFor rows)
+pub table-pages : (mem : List ℕ) (rows : ℕ) → Fitting rows mem → PagesIn mem 0 bodySize (pagesFor rows)
 unfolding pagesFor
-table-pages mem rows l r k h = omega arith
+table-pages mem rows f k h = omega (arith, f .0, f .1)
 
 pub table-rows : (mem : List ℕ) (rows : ℕ) → rowsKeep rows (pages mem 0 bodySize (pagesFor rows)) ≡ rowsKeep rows mem
 table-rows mem rows =
@@ -52,18 +52,9 @@ table-rows mem rows =
 -- ---- saving
 
 -- what the limits say
-pub record Limits (h : Header) (mem : List ℕ) : Type 0 where
-  pub sized : length mem ≡ tableSize
-  pub few : h .board .rows ≤ mostRows
-
-pub limits : (h : Header) (mem : List ℕ) → withinLimits h mem ≡ true → Limits h mem
+pub limits : (h : Header) (mem : List ℕ) → withinLimits h mem ≡ true → Fitting (h .board .rows) mem
 unfolding withinLimits fits
-limits h mem e =
-    let f = both-left (eqb (length mem) tableSize && leb (h .board .rows) mostRows) _ e in
-    record {
-      sized = eqb-true (length mem) tableSize (both-left _ _ f);
-      few = leb-true (h .board .rows) mostRows (both-right (eqb (length mem) tableSize) _ f);
-    }
+limits h mem e = rows-fitting (h .board .rows) mem (both-left (rowsFit (h .board .rows) mem) _ e)
 
 module _ (h : Header) (mem out : List ℕ) {r : Bool} (er : r ≡ withinLimits h mem) where
   pub save-unfit : not r ≡ true → unsaved Unfit out ≡ saveOf h mem out
@@ -71,7 +62,7 @@ module _ (h : Header) (mem out : List ℕ) {r : Bool} (er : r ≡ withinLimits h
   save-unfit n = simp (was-no er n)
 
   module _ (yes-r : not r ≡ false) where
-    pub save-limits : Limits h mem
+    pub save-limits : Fitting (h .board .rows) mem
     save-limits = limits h mem (was-yes er yes-r)
 
     module _ {q w : Bool} (eq : q ≡ headerKeeps h) (ew : w ≡ rowsKeep (h .board .rows) (pages mem 0 bodySize (pagesFor (h .board .rows)))) where
@@ -106,15 +97,15 @@ accepted-long image v e f = long image (accepted-if _ _ BadLength (sym e ∙ f))
 pub refused-with : (r : Refusal) {h : Header} → h ≡ freshHeader → restored (Refused r) h ≡ restored (Refused r) freshHeader
 refused-with r e = ap (restored (Refused r)) e
 
-module _ (image mem : List ℕ) where
-  pub restore-unfit : {a : Restored} → a ≡ restored (Refused Unfit) freshHeader → (length mem ≡ tableSize → ⊥) → restoring a mem ≡ restoreOf image mem
+module _ (image mem : List ℕ) {w : Bool} (told : w ≡ isTable mem) where
+  pub restore-unfit : {a : Restored} → a ≡ restored (Refused Unfit) freshHeader → not w ≡ true → restoring a mem ≡ restoreOf image mem
   unfolding restoreOf restoredBy
-  restore-unfit e d = simp (ne-eqb _ _ d, e)
+  restore-unfit e d = simp (was-no told d, e)
 
-  module _ (l : length mem ≡ tableSize) {v : Verdict} (ev : v ≡ verdictOf image) where
+  module _ (l : not w ≡ false) {v : Verdict} (ev : v ≡ verdictOf image) where
     judged : restoredBy v image mem ≡ restoreOf image mem
     unfolding restoreOf
-    judged = simp (eq-eqb _ _ l, ev)
+    judged = simp (was-yes told l, ev)
 
     pub restore-refuses : (r : Refusal) {a : Restored} → v ≡ Refused r → a ≡ restored (Refused r) freshHeader → restoring a mem ≡ restoreOf image mem
     unfolding restoredBy

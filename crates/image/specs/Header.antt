@@ -20,7 +20,7 @@ use Rattle.image.specs.declared.Header.{Header}
 abbrev pub freshHeader : Header
 freshHeader = record { session = replicate 10 32; known = false; next = 1; board = freshBoard }
 
--- 20: table memory of the right length, at most 256 rows, next number 1 to 10^12
+-- 20: the rows fit their memory, next number 1 to 10^12
 unfoldable pub withinLimits : Header → List ℕ → Bool
 withinLimits h mem = fits (h .board) mem && numberInRange (h .next)
 

@@ -9,7 +9,7 @@ use Rattle.field.specs.Bytes.{part, be}
 use Rattle.field.specs.Limits.{numberInRange}
 use Rattle.field.specs.Text.{every, isZero}
 use Rattle.block.specs.Block.{blockSize, headSize, bodySize, headAt, sameHead, checkKeeps}
-use Rattle.table.specs.Memory.{tableSize, rowAt}
+use Rattle.table.specs.Memory.{tableSize, isTable, rowAt}
 use Rattle.table.specs.Rules.{rowsKeep}
 use Rattle.image.specs.Shape.{blocksFor, mostBlocks, headFor, pages, firstPage, allBelow}
 use Rattle.image.specs.Header.{freshHeader, headerKeeps, factsSize, headerOf}
@@ -24,7 +24,7 @@ use Rattle.image.specs.declared.Restored.{Restored}
 abbrev pub countOf : List ℕ → ℕ
 countOf image = length image / blockSize
 
--- 21: not 0, whole blocks, at most 65
+-- 21: not 0, whole blocks, not too many
 unfoldable pub lengthKeeps : List ℕ → Bool
 lengthKeeps image =
     eqb (length image % blockSize) 0 && (leb 1 (countOf image) && leb (countOf image) mostBlocks)
@@ -92,4 +92,4 @@ restoredBy (Refused r) image mem = restoring (restored (Refused r) freshHeader) 
 -- 20 for table memory of the wrong length comes first
 unfoldable pub restoreOf : List ℕ → List ℕ → Restoring
 restoreOf image mem =
-    restoredBy (cond (eqb (length mem) tableSize) (verdictOf image) (Refused Unfit)) image mem
+    restoredBy (cond (isTable mem) (verdictOf image) (Refused Unfit)) image mem

@@ -8,6 +8,7 @@ use Rattle.field.specs.Bytes.{part}
 use Rattle.block.specs.Block.{blockSize, headSize, bodySize}
 use Rattle.block.specs.declared.Head.{Head}
 use Rattle.row.specs.Fields.{rowSize}
+use Rattle.table.specs.Memory.{mostRows}
 
 -- ---- the count
 
@@ -23,8 +24,9 @@ pagesFor rows = (rows + (pageRows - 1)) / pageRows
 unfoldable pub blocksFor : ℕ → ℕ
 blocksFor rows = 1 + pagesFor rows
 
+-- 65 for the most rows
 abbrev pub mostBlocks : ℕ
-mostBlocks = 65
+mostBlocks = 1 + mostRows / pageRows
 
 -- ---- the heads
 

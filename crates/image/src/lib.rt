@@ -11,10 +11,10 @@ mod judge;
 mod pages;
 mod rows;
 
-pub const MOST_BLOCKS: usize = 65;
-
 // Each block after the first holds so many rows.
 pub const PAGE_ROWS: usize = 4;
+
+pub const MOST_BLOCKS: usize = 1 + table::MOST_ROWS / PAGE_ROWS;
 
 // What is saved beside the rows.
 pub struct Header {
@@ -84,8 +84,7 @@ pub fn fresh_header() -> Header
 fn within_limits(h: Header, table: &[u8]) -> bool
     ensures { λ r. ⌜ r ≡ withinLimits h (now (table .entry)) ⌝ }
 {
-    ((table.len() == table::TABLE_SIZE) & (h.board.rows <= table::MOST_ROWS))
-        & field::limits::number_in_range(h.next)
+    table::rows_fit(h.board.rows, table) & field::limits::number_in_range(h.next)
 }
 
 // The image of the rows in use and of what stands beside them, to the front of `out`.
@@ -123,7 +122,7 @@ fn refuse(r: Refusal) -> Restored
 pub fn restore(image: &[u8], table: &mut [u8]) -> Restored
     ensures { λ r. ⌜ restoring r (now (table .exit)) ≡ restoreOf (now (image .entry)) (now (table .entry)) ⌝ }
 {
-    if table.len() != table::TABLE_SIZE {
+    if !table::is_table(table) {
         return refuse(Refusal::Unfit);
     }
     match judge::judge(image) {

@@ -80,9 +80,9 @@ module _ (d : Directory) (t : Texts) (fit : Fit instrumentRows (instrumentFields
   pub new-size : length (newRow d t) ≡ rowSize
   unfolding newRow digits bytesFor inside
   new-size =
-      changed-length (entryChange (d .instrument) t ∷ conditionChange 32 ∷ stampChange (d .stamp) ∷ []) (replicate 124 0) 124 (entry-wide, (refl, (refl, tt)))
-      (omega (arith, length-replicate {A = ℕ} 124 0)) refl
-      ∙ length-replicate {A = ℕ} 124 0
+      changed-length (entryChange (d .instrument) t ∷ conditionChange 32 ∷ stampChange (d .stamp) ∷ []) (replicate rowSize 0) rowSize (entry-wide, (refl, (refl, tt)))
+      (omega (arith, length-replicate {A = ℕ} rowSize 0)) refl
+      ∙ length-replicate {A = ℕ} rowSize 0
 
 quote-clear : (sides : Sides) → outside 0 4 (quotePlaces sides) ≡ true
 unfolding outside
@@ -118,14 +118,14 @@ module _ (d : Directory) (t : Texts) (fit : Fit instrumentRows (instrumentFields
       by n =
           let f = relisted d t fit n in
           entry-id d t (changed (entryChange (d .instrument) t ∷ stampChange (d .stamp) ∷ purgeFor n) r) fit
-          (part-put [] (entryChange (d .instrument) t) (stampChange (d .stamp) ∷ purgeFor n) r 124 (f .wide) (omega arith) (f .within) (purge-clear (d .stamp) n))
+          (part-put [] (entryChange (d .instrument) t) (stampChange (d .stamp) ∷ purgeFor n) r rowSize (f .wide) (omega arith) (f .within) (purge-clear (d .stamp) n))
 
   pub new-id : idOf (newRow d t) ≡ d .instrument .id
   unfolding newRow digits bytesFor inside outside
   new-id =
       entry-id d t (newRow d t) fit
-      (part-put [] (entryChange (d .instrument) t) (conditionChange 32 ∷ stampChange (d .stamp) ∷ []) (replicate 124 0) 124 (entry-wide d t fit, (refl, (refl, tt)))
-      (omega (arith, length-replicate {A = ℕ} 124 0)) refl refl)
+      (part-put [] (entryChange (d .instrument) t) (conditionChange 32 ∷ stampChange (d .stamp) ∷ []) (replicate rowSize 0) rowSize (entry-wide d t fit, (refl, (refl, tt)))
+      (omega (arith, length-replicate {A = ℕ} rowSize 0)) refl refl)
 
 module _ (r : List ℕ) (long : length r ≡ rowSize) where
   -- a quote and a state leave it

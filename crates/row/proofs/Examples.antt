@@ -8,7 +8,7 @@ use Rattle.field.specs.Bytes.{part, overlay, digits, value}
 use Rattle.message.specs.Layout.{bytesFor}
 use Rattle.message.specs.declared.Side.the-variants.{Bid, Ask}
 use Rattle.message.specs.declared.ShortNumbers.{ShortNumbers}
-use Rattle.row.specs.Fields.{sidesOf, priceOf, numbersOf, seenWith}
+use Rattle.row.specs.Fields.{rowSize, sidesOf, priceOf, numbersOf, seenWith}
 use Rattle.row.specs.Changes.{changed, widened, sidesChanges, quoteChanges}
 use Rattle.row.specs.declared.Sides.the-variants.{One}
 use Rattle.row.specs.declared.Quote.{Quote}
@@ -28,7 +28,7 @@ abbrev bid : Quote
 bid = record { stamp = record { tracking = 1; time = 2 }; id = 7; condition = 32; sides = One Bid (widened (pennies 125)) }
 
 abbrev row-after : List ℕ
-row-after = changed (quoteChanges bid (replicate 124 0)) (replicate 124 0)
+row-after = changed (quoteChanges bid (replicate rowSize 0)) (replicate rowSize 0)
 
 bid-seen : sidesOf row-after ≡ 1
 unfolding changed quoteChanges sidesChanges seenWith overlay part digits value bytesFor

@@ -205,12 +205,12 @@ module _ (c : ℕ) (s : Stamp) (r : List ℕ) (long : rowSize ≤ length r) (hc 
       (outside 0 entrySize (places nums) ≡ true) × (outside 52 1 (places nums) ≡ true) × (outside 53 1 (places nums) ≡ true) × (outside 54 1 (places nums) ≡ true)
       × (outside 55 1 (places nums) ≡ true) × (outside 96 10 (places nums) ≡ true) × (outside 106 18 (places nums) ≡ true)
 
-  module _ (sides : ℕ) (nums : List Change) (wide : Wide nums) (within : inside 124 nums ≡ true) (clear : Clear nums) where
+  module _ (sides : ℕ) (nums : List Change) (wide : Wide nums) (within : inside rowSize nums ≡ true) (clear : Clear nums) where
     all-wide : Wide (quotes sides nums)
     unfolding digits bytesFor
     all-wide = (refl, (refl, (refl, wide)))
 
-    all-inside : inside 124 (quotes sides nums) ≡ true
+    all-inside : inside rowSize (quotes sides nums) ≡ true
     unfolding inside
     all-inside = within
 
@@ -219,13 +219,13 @@ module _ (c : ℕ) (s : Stamp) (r : List ℕ) (long : rowSize ≤ length r) (hc 
     quoted =
         let cs : List Change = quotes sides nums in
         record {
-          entry = part-kept cs r 124 0 entrySize all-wide long all-inside (clear .0);
-          state = part-kept cs r 124 52 1 all-wide long all-inside (clear .1);
-          condition = part-put [] (conditionChange c) (stampChange s ∷ seenChange sides ∷ nums) r 124 all-wide long all-inside (clear .2);
-          seen = part-put (conditionChange c ∷ stampChange s ∷ []) (seenChange sides) nums r 124 all-wide long all-inside (clear .3);
-          gap = part-kept cs r 124 55 1 all-wide long all-inside (clear .4);
-          stamp = part-put (conditionChange c ∷ []) (stampChange s) (seenChange sides ∷ nums) r 124 all-wide long all-inside (clear .5);
-          tail = part-kept cs r 124 106 18 all-wide long all-inside (clear .6);
+          entry = part-kept cs r rowSize 0 entrySize all-wide long all-inside (clear .0);
+          state = part-kept cs r rowSize 52 1 all-wide long all-inside (clear .1);
+          condition = part-put [] (conditionChange c) (stampChange s ∷ seenChange sides ∷ nums) r rowSize all-wide long all-inside (clear .2);
+          seen = part-put (conditionChange c ∷ stampChange s ∷ []) (seenChange sides) nums r rowSize all-wide long all-inside (clear .3);
+          gap = part-kept cs r rowSize 55 1 all-wide long all-inside (clear .4);
+          stamp = part-put (conditionChange c ∷ []) (stampChange s) (seenChange sides ∷ nums) r rowSize all-wide long all-inside (clear .5);
+          tail = part-kept cs r rowSize 106 18 all-wide long all-inside (clear .6);
         }
 
     -- of a side that is put, and of one that is left
@@ -235,10 +235,10 @@ module _ (c : ℕ) (s : Stamp) (r : List ℕ) (long : rowSize ≤ length r) (hc 
         let cs : List Change = quotes sides before in
         let i : quotes sides nums ≡ cs ++ (numbersChange at n ∷ after) = ap (quotes sides) e in
         ap (λ (x : List Change). part (changed x r) at 20) i
-        ∙ part-put cs (numbersChange at n) after r 124 (subst Wide i all-wide) long (subst (λ (x : List Change). inside 124 x ≡ true) i all-inside) o
+        ∙ part-put cs (numbersChange at n) after r rowSize (subst Wide i all-wide) long (subst (λ (x : List Change). inside rowSize x ≡ true) i all-inside) o
 
     numbers-left : (at : ℕ) → outside at 20 (places (quotes sides nums)) ≡ true → part (changed (quotes sides nums) r) at 20 ≡ part r at 20
-    numbers-left at o = part-kept (quotes sides nums) r 124 at 20 all-wide long all-inside o
+    numbers-left at o = part-kept (quotes sides nums) r rowSize at 20 all-wide long all-inside o
 
   -- THEOREM: a quote keeps the row rules
   pub quote-keeps : (sides : Sides) → PricesIn sides → RowKept (changed (conditionChange c ∷ stampChange s ∷ sidesChanges sides (sidesOf r)) r)
@@ -291,9 +291,9 @@ action-keeps a r long hs ht k =
     let cs : List Change = stateChange (a .state) ∷ stampChange (a .stamp) ∷ [] in
     let w : Wide cs = (refl, (refl, tt)) in
     let r′ : List ℕ = changed cs r in
-    let left : (i m : ℕ) → outside i m (places cs) ≡ true → part r′ i m ≡ part r i m = λ i m o. part-kept cs r 124 i m w long refl o in
+    let left : (i m : ℕ) → outside i m (places cs) ≡ true → part r′ i m ≡ part r i m = λ i m o. part-kept cs r rowSize i m w long refl o in
     let v : sidesOf r′ ≡ sidesOf r = ap be (left 54 1 refl) in
-    let s : stateOf r′ ≡ a .state = one-back r′ 52 (a .state) (listed-below states (a .state) refl hs) (part-put [] (stateChange (a .state)) (stampChange (a .stamp) ∷ []) r 124 w long refl refl) in
+    let s : stateOf r′ ≡ a .state = one-back r′ 52 (a .state) (listed-below states (a .state) refl hs) (part-put [] (stateChange (a .state)) (stampChange (a .stamp) ∷ []) r rowSize w long refl refl) in
     record {
       entry = entry-same r r′ (left 0 entrySize refl) ∙ k .entry;
       state = ap (listed (0 ∷ states)) s ∙ ap (λ (b : Bool). cond (eqb 0 (a .state)) true b) hs ∙ first-true (eqb 0 (a .state));
@@ -302,7 +302,7 @@ action-keeps a r long hs ht k =
       bid = side-same r r′ Bid (ap (hasSeen Bid) v) (left 56 20 refl) ∙ k .bid;
       ask = side-same r r′ Ask (ap (hasSeen Ask) v) (left 76 20 refl) ∙ k .ask;
       bare = bare-same r r′ (left 53 1 refl) (left 54 1 refl) ∙ k .bare;
-      stamp = stamp-put r′ (a .stamp) ht (part-put (stateChange (a .state) ∷ []) (stampChange (a .stamp)) [] r 124 w long refl refl);
+      stamp = stamp-put r′ (a .stamp) ht (part-put (stateChange (a .state) ∷ []) (stampChange (a .stamp)) [] r rowSize w long refl refl);
       spare = spare-same r r′ (left 55 1 refl) (left 106 18 refl) ∙ k .spare;
     }
 
@@ -354,17 +354,17 @@ module _ (d : Directory) (t : Texts) (fit : Fit instrumentRows (instrumentFields
     kept-quotes =
         let w : Wide known = (entry-wide d t fit, (refl, tt)) in
         let r′ : List ℕ = changed known r in
-        let left : (i m : ℕ) → outside i m (places known) ≡ true → part r′ i m ≡ part r i m = λ i m o. part-kept known r 124 i m w long refl o in
+        let left : (i m : ℕ) → outside i m (places known) ≡ true → part r′ i m ≡ part r i m = λ i m o. part-kept known r rowSize i m w long refl o in
         let v : sidesOf r′ ≡ sidesOf r = ap be (left 54 1 refl) in
         record {
-          entry = entry-put r′ (part-put [] (entryChange (d .instrument) t) (stampChange (d .stamp) ∷ []) r 124 w long refl refl);
+          entry = entry-put r′ (part-put [] (entryChange (d .instrument) t) (stampChange (d .stamp) ∷ []) r rowSize w long refl refl);
           state = ap (λ (x : List ℕ). listed (0 ∷ states) (be x)) (left 52 1 refl) ∙ k .state;
           condition = ap (λ (x : List ℕ). listed conditions (be x)) (left 53 1 refl) ∙ k .condition;
           sides = ap (λ (x : ℕ). leb x 3) v ∙ k .sides;
           bid = side-same r r′ Bid (ap (hasSeen Bid) v) (left 56 20 refl) ∙ k .bid;
           ask = side-same r r′ Ask (ap (hasSeen Ask) v) (left 76 20 refl) ∙ k .ask;
           bare = bare-same r r′ (left 53 1 refl) (left 54 1 refl) ∙ k .bare;
-          stamp = stamp-put r′ (d .stamp) ht (part-put (entryChange (d .instrument) t ∷ []) (stampChange (d .stamp)) [] r 124 w long refl refl);
+          stamp = stamp-put r′ (d .stamp) ht (part-put (entryChange (d .instrument) t ∷ []) (stampChange (d .stamp)) [] r rowSize w long refl refl);
           spare = spare-same r r′ (left 55 1 refl) (left 106 18 refl) ∙ k .spare;
         }
 
@@ -375,12 +375,12 @@ module _ (d : Directory) (t : Texts) (fit : Fit instrumentRows (instrumentFields
         let cs : List Change = known ++ purge in
         let w : Wide cs = (entry-wide d t fit, (refl, (refl, (refl, tt)))) in
         let r′ : List ℕ = changed cs r in
-        bare-kept r′ (part-put [] (entryChange (d .instrument) t) (stampChange (d .stamp) ∷ purge) r 124 w long refl refl)
-        (ap (λ (x : List ℕ). listed (0 ∷ states) (be x)) (part-kept cs r 124 52 1 w long refl refl) ∙ k .state)
-        (part-put known (change 53 1 (bytesBe 1 32)) (change 54 42 (replicate 42 0) ∷ []) r 124 w long refl refl)
-        (part-put (known ++ (change 53 1 (bytesBe 1 32) ∷ [])) (change 54 42 (replicate 42 0)) [] r 124 w long refl refl)
-        (part-put (entryChange (d .instrument) t ∷ []) (stampChange (d .stamp)) purge r 124 w long refl refl)
-        (ap (every isZero) (part-kept cs r 124 106 18 w long refl refl) ∙ both-right (every isZero (part r 55 1)) (every isZero (part r 106 18)) (k .spare))
+        bare-kept r′ (part-put [] (entryChange (d .instrument) t) (stampChange (d .stamp) ∷ purge) r rowSize w long refl refl)
+        (ap (λ (x : List ℕ). listed (0 ∷ states) (be x)) (part-kept cs r rowSize 52 1 w long refl refl) ∙ k .state)
+        (part-put known (change 53 1 (bytesBe 1 32)) (change 54 42 (replicate 42 0) ∷ []) r rowSize w long refl refl)
+        (part-put (known ++ (change 53 1 (bytesBe 1 32) ∷ [])) (change 54 42 (replicate 42 0)) [] r rowSize w long refl refl)
+        (part-put (entryChange (d .instrument) t ∷ []) (stampChange (d .stamp)) purge r rowSize w long refl refl)
+        (ap (every isZero) (part-kept cs r rowSize 106 18 w long refl refl) ∙ both-right (every isZero (part r 55 1)) (every isZero (part r 106 18)) (k .spare))
 
     -- THEOREM: a directory for a known id keeps the row rules
     pub directory-keeps : RowKept (changed (directoryChanges d t) r)
@@ -397,11 +397,11 @@ module _ (d : Directory) (t : Texts) (fit : Fit instrumentRows (instrumentFields
   new-keeps =
       let cs : List Change = entryChange (d .instrument) t ∷ conditionChange 32 ∷ stampChange (d .stamp) ∷ [] in
       let w : Wide cs = (entry-wide d t fit, (refl, (refl, tt))) in
-      let zeros : List ℕ = replicate 124 0 in
-      let long : 124 ≤ length zeros = omega (arith, length-replicate {A = ℕ} 124 0) in
-      bare-kept (changed cs zeros) (part-put [] (entryChange (d .instrument) t) (conditionChange 32 ∷ stampChange (d .stamp) ∷ []) zeros 124 w long refl refl)
-      (ap (λ (x : List ℕ). listed (0 ∷ states) (be x)) (part-kept cs zeros 124 52 1 w long refl refl))
-      (part-put (entryChange (d .instrument) t ∷ []) (conditionChange 32) (stampChange (d .stamp) ∷ []) zeros 124 w long refl refl)
-      (part-kept cs zeros 124 54 42 w long refl refl)
-      (part-put (entryChange (d .instrument) t ∷ conditionChange 32 ∷ []) (stampChange (d .stamp)) [] zeros 124 w long refl refl)
-      (ap (every isZero) (part-kept cs zeros 124 106 18 w long refl refl))
+      let zeros : List ℕ = replicate rowSize 0 in
+      let long : rowSize ≤ length zeros = omega (arith, length-replicate {A = ℕ} rowSize 0) in
+      bare-kept (changed cs zeros) (part-put [] (entryChange (d .instrument) t) (conditionChange 32 ∷ stampChange (d .stamp) ∷ []) zeros rowSize w long refl refl)
+      (ap (λ (x : List ℕ). listed (0 ∷ states) (be x)) (part-kept cs zeros rowSize 52 1 w long refl refl))
+      (part-put (entryChange (d .instrument) t ∷ []) (conditionChange 32) (stampChange (d .stamp) ∷ []) zeros rowSize w long refl refl)
+      (part-kept cs zeros rowSize 54 42 w long refl refl)
+      (part-put (entryChange (d .instrument) t ∷ conditionChange 32 ∷ []) (stampChange (d .stamp)) [] zeros rowSize w long refl refl)
+      (ap (every isZero) (part-kept cs zeros rowSize 106 18 w long refl refl))

@@ -122,12 +122,12 @@ module _ (xs : List ℕ) (d : Directory) (t : Texts) {us vs : List ℕ} (e : us 
   unfolding changed directoryChanges
   directory-kept n = rw (ne-eqb (d .instrument .tradable) 78 n, ← e) f
 
-pub new-put : (xs : List ℕ) (d : Directory) (t : Texts) {zeros us vs zs : List ℕ} → length xs ≡ rowSize → zeros ≡ overlay xs 0 (replicate 124 0)
+pub new-put : (xs : List ℕ) (d : Directory) (t : Texts) {zeros us vs zs : List ℕ} → length xs ≡ rowSize → zeros ≡ overlay xs 0 (replicate rowSize 0)
     → us ≡ overlay zeros 0 (bytesFor instrumentRows (instrumentFields (d .instrument) t)) → vs ≡ overlay us 53 (bytesBe 1 32)
     → zs ≡ overlay vs 96 (bytesFor stampRows (stampFields (d .stamp))) → zs ≡ newRow d t
 unfolding changed newRow
 new-put xs d t h z e f g =
-    let i : overlay xs 0 (replicate 124 0) ≡ replicate 124 0 = overlay-whole xs (replicate 124 0) (length-replicate {A = ℕ} 124 0 ∙ sym h) in
+    let i : overlay xs 0 (replicate rowSize 0) ≡ replicate rowSize 0 = overlay-whole xs (replicate rowSize 0) (length-replicate {A = ℕ} rowSize 0 ∙ sym h) in
     cc
 
 -- ---- the tests

@@ -19,7 +19,7 @@ use Rattle.message.specs.declared.EndOfReplay.{EndOfReplay}
 use Rattle.message.specs.declared.Directory.{Directory}
 use Rattle.message.specs.declared.TradingAction.{TradingAction}
 use Rattle.message.specs.declared.Texts.{Texts}
-use Rattle.row.specs.Fields.{takesQuote}
+use Rattle.row.specs.Fields.{rowSize, takesQuote}
 use Rattle.row.specs.Changes.{changed, unchanged, newRow, directoryChanges, actionChanges, quoteChanges}
 use Rattle.row.specs.declared.Quote.{Quote}
 use Rattle.table.specs.Memory.{mostRows, tableSize, isTable, rowsFit, Fitting, row, withRow, rowFor}
@@ -35,26 +35,26 @@ use Rattle.table.proofs.Search.{found}
 
 -- the bytes of row k, as they are lent
 abbrev lent : ℕ → List ℕ → List ℕ
-lent k mem = part mem (k * 124) (k * 124 + 124 - k * 124)
+lent k mem = part mem (k * rowSize) (k * rowSize + rowSize - k * rowSize)
 
 abbrev back : ℕ → List ℕ → List ℕ → List ℕ
-back k mem r = putMid (k * 124) (k * 124 + 124 - k * 124) mem r
+back k mem r = putMid (k * rowSize) (k * rowSize + rowSize - k * rowSize) mem r
 
 row-lent : (k : ℕ) (mem : List ℕ) → lent k mem ≡ row k mem
 unfolding row
-row-lent k mem = ap (part mem (k * 124)) {x = k * 124 + 124 - k * 124} {y = 124} (omega arith)
+row-lent k mem = ap (part mem (k * rowSize)) {x = k * rowSize + rowSize - k * rowSize} {y = rowSize} (omega arith)
 
-row-back : (k : ℕ) (mem r : List ℕ) → k * 124 + 124 ≤ length mem → length r ≡ k * 124 + 124 - k * 124 → back k mem r ≡ withRow k r mem
+row-back : (k : ℕ) (mem r : List ℕ) → k * rowSize + rowSize ≤ length mem → length r ≡ k * rowSize + rowSize - k * rowSize → back k mem r ≡ withRow k r mem
 unfolding withRow
-row-back k mem r h e = part-back (k * 124) (k * 124 + 124) mem r (omega arith) h e
+row-back k mem r h e = part-back (k * rowSize) (k * rowSize + rowSize) mem r (omega arith) h e
 
-module _ (k : ℕ) (mem : List ℕ) (b : Board) (h : k * 124 + 124 ≤ length mem) where
-  written : (f : List ℕ → List ℕ) {r : List ℕ} {a : Applied} → r ≡ f (lent k mem) → length r ≡ k * 124 + 124 - k * 124 → a ≡ taken b
+module _ (k : ℕ) (mem : List ℕ) (b : Board) (h : k * rowSize + rowSize ≤ length mem) where
+  written : (f : List ℕ → List ℕ) {r : List ℕ} {a : Applied} → r ≡ f (lent k mem) → length r ≡ k * rowSize + rowSize - k * rowSize → a ≡ taken b
       → outcome a (back k mem r) ≡ outcome (taken b) (withRow k (f (row k mem)) mem)
   written f {r} p l e = rw (row-back k mem r h l, e, p, row-lent)
 
   pub action-taken : (m : TradingAction) {r : List ℕ} {a : Applied} → r ≡ changed (actionChanges m) (lent k mem)
-      → length r ≡ k * 124 + 124 - k * 124 → a ≡ taken b → outcome a (back k mem r) ≡ actionAt b m mem (At k)
+      → length r ≡ k * rowSize + rowSize - k * rowSize → a ≡ taken b → outcome a (back k mem r) ≡ actionAt b m mem (At k)
   unfolding actionAt
   action-taken m f l e = written (changed (actionChanges m)) f l e
 
@@ -64,7 +64,7 @@ module _ (k : ℕ) (mem : List ℕ) (b : Board) (h : k * 124 + 124 ≤ length me
   quote-denied q p n e = rw (← row-lent k mem, ← p, n, e)
 
   pub quote-taken : (q : Quote) {ok : Bool} {r : List ℕ} {a : Applied} → ok ≡ takesQuote (lent k mem) → ok ≡ true
-      → r ≡ changed (quoteChanges q (lent k mem)) (lent k mem) → length r ≡ k * 124 + 124 - k * 124 → a ≡ taken b
+      → r ≡ changed (quoteChanges q (lent k mem)) (lent k mem) → length r ≡ k * rowSize + rowSize - k * rowSize → a ≡ taken b
       → outcome a (back k mem r) ≡ quoteAt b q mem (At k)
   unfolding quoteAt
   quote-taken q p y f l e = rw (← ap takesQuote (row-lent k mem), ← p, y) (written (λ x. changed (quoteChanges q x) x) f l e)
@@ -75,25 +75,25 @@ module _ (k : ℕ) (mem : List ℕ) (b : Board) (h : k * 124 + 124 ≤ length me
     relist-denied n e = rw (← row-lent k mem, ← p, n, e)
 
     pub relist-taken : {r : List ℕ} {a : Applied} → ok ≡ true → r ≡ changed (directoryChanges d t) (lent k mem)
-        → length r ≡ k * 124 + 124 - k * 124 → a ≡ taken b → outcome a (back k mem r) ≡ directoryAt b d t mem (At k)
+        → length r ≡ k * rowSize + rowSize - k * rowSize → a ≡ taken b → outcome a (back k mem r) ≡ directoryAt b d t mem (At k)
     unfolding directoryAt
     relist-taken y f l e = rw (← ap (unchanged (d .instrument) t) (row-lent k mem), ← p, y) (written (changed (directoryChanges d t)) f l e)
 
 module _ (mem : List ℕ) (b : Board) (d : Directory) (t : Texts) where
-  pub add-denied : {a : Applied} → 256 ≤ b .rows → a ≡ denied TableFull b → outcome a mem ≡ directoryAt b d t mem Nothing
+  pub add-denied : {a : Applied} → mostRows ≤ b .rows → a ≡ denied TableFull b → outcome a mem ≡ directoryAt b d t mem Nothing
   unfolding directoryAt
-  add-denied n e = rw (le-leb 256 (b .rows) n, e)
+  add-denied n e = rw (le-leb mostRows (b .rows) n, e)
 
-  pub add-taken : {r : List ℕ} {a : Applied} → length mem ≡ tableSize → b .rows < 256 → r ≡ newRow d t
-      → length r ≡ b .rows * 124 + 124 - b .rows * 124 → a ≡ taken (oneMore b) → outcome a (back (b .rows) mem r) ≡ directoryAt b d t mem Nothing
+  pub add-taken : {r : List ℕ} {a : Applied} → length mem ≡ tableSize → b .rows < mostRows → r ≡ newRow d t
+      → length r ≡ b .rows * rowSize + rowSize - b .rows * rowSize → a ≡ taken (oneMore b) → outcome a (back (b .rows) mem r) ≡ directoryAt b d t mem Nothing
   unfolding directoryAt
-  add-taken {r} s h f l e = rw (lt-leb 256 (b .rows) h, row-back (b .rows) mem r (omega arith) l, f, e)
+  add-taken {r} s h f l e = rw (lt-leb mostRows (b .rows) h, row-back (b .rows) mem r (omega arith) l, f, e)
 
 -- ---- by what is found
 
 -- a row that is found lies in the memory
 pub found-fits : (mem : List ℕ) (rows id k : ℕ) {w : Found} → Fitting rows mem → w ≡ rowFor rows mem id → w ≡ At k
-    → k * 124 + 124 ≤ length mem
+    → k * rowSize + rowSize ≤ length mem
 found-fits mem rows id k s p e = let h = found rows mem id k (sym p ∙ e) in omega (arith, h .below, s .0, s .1)
 
 module _ (mem : List ℕ) (b : Board) {w : Found} {a : Applied} {zs : List ℕ} where

@@ -17,7 +17,7 @@ mod walk;
 
 pub const MOST_ROWS: usize = 256;
 
-pub const TABLE_SIZE: usize = 31744;
+pub const TABLE_SIZE: usize = MOST_ROWS * row::ROW_SIZE;
 
 // What is kept beside the rows.
 pub struct Board {

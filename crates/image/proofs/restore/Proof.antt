@@ -1,6 +1,7 @@
 -- `image::restore` meets its contract.
 -- Assumes nothing.
 use native.Mathlib.Omega.{arith}
+use Rattle.table.proofs.Ways.{told-long}
 use Rattle.image.proofs.Judged.{Long}
 use Rattle.image.proofs.Ways.{accepted-long, restore-unfit, restore-accepts, restore-refuses}
 use borrow.Author.Needs.{needs}
@@ -11,13 +12,13 @@ returns : tie.Need-returns
 returns c = search restore-unfit
 
 sub-take : tie.Need-sub-take
-sub-take c = let l : Long (c .before .before .before .before .before .before .before .args .image .now) = search accepted-long in l .least
+sub-take c = let l : Long (c .before .before .before .before .before .before .before .before .before .args .image .now) = search accepted-long in l .least
 
 take-requires : tie.Need-take-requires
-take-requires c κs = let l : Long (c .before .before .before .before .before .before .before .args .image .now) = search accepted-long in (omega arith, search needs, omega arith)
+take-requires c κs = let l : Long (c .before .before .before .before .before .before .before .before .before .args .image .now) = search accepted-long in (omega arith, search (told-long, needs), omega arith)
 
 read-requires : tie.Need-read-requires
-read-requires c κs = let l : Long (c .before .before .before .before .before .before .before .before .before .before .args .image .now) = search accepted-long in l .some
+read-requires c κs = let l : Long (c .before .before .before .before .before .before .before .before .before .before .before .before .args .image .now) = search accepted-long in l .some
 
 returns-2 : tie.Need-returns-2
 returns-2 c = search restore-accepts depth 14
@@ -26,4 +27,4 @@ returns-3 : tie.Need-returns-3
 returns-3 c = search restore-refuses
 
 pub restore-spec : {M : Type 1} → statement M
-restore-spec = tie.close (tie.spec (λ c κs. search needs) returns (λ c κs. search needs) (λ c. search needs) sub-take take-requires read-requires (λ c. search needs) (λ c κs. search needs) (λ c. search needs) returns-2 returns-3)
+restore-spec = tie.close (tie.spec (λ c κs. search needs) (λ c κs. search needs) (λ c. search needs) returns (λ c κs. search needs) (λ c. search needs) sub-take take-requires read-requires (λ c. search needs) (λ c κs. search needs) (λ c. search needs) returns-2 (λ c. search needs) returns-3)

@@ -6,7 +6,7 @@ use Rattle.image.proofs.within_limits.Statement.{statement}
 use Rattle.image.proofs.within_limits.Tie as tie
 
 returns : tie.Need-returns
-returns c = let s = c .before .before .before .args in within-limits (s .h) (s .table .now) (c .number-in-range .ensures)
+returns c = search (within-limits, needs)
 
 pub within-limits-spec : {M : Type 1} → statement M
-within-limits-spec = tie.close (tie.spec (λ c κs. search needs) returns)
+within-limits-spec = tie.close (tie.spec (λ c κs. search needs) (λ c κs. search needs) returns)

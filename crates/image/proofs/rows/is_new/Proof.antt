@@ -1,19 +1,19 @@
 -- `image::rows::is_new` meets its contract.
 -- Assumes nothing.
 use mathlib.Core.Path.{_≡_}
+use mathlib.Core.Bool.{true}
 use Prim.Native.Nat.{_≤_, _-_, _+_}
 use native.Mathlib.Omega.{arith}
-use Rattle.table.specs.Memory.{firstFrom, rowFor}
-use Rattle.table.proofs.Search.{search-begins}
+use Rattle.table.specs.Rules.{lacks}
 use Rattle.image.specs.Shape.{pagesFor, pages}
 use Rattle.image.proofs.Laid.{row-fits}
-use Rattle.image.proofs.Walk.{id-twice, id-other, id-new}
+use Rattle.image.proofs.Walk.{lacks-none, id-twice, id-other, id-new}
 use borrow.Author.Needs.{needs}
 use Rattle.image.proofs.rows.is_new.Statement.{statement}
 use Rattle.image.proofs.rows.is_new.Tie as tie
 
 abbrev Inv-loop : tie.InvT-loop
-Inv-loop s base stride k id j₀ j = (j ≤ k) × (rowFor k (pages s base stride (pagesFor (k + 1))) id ≡ firstFrom j (k - j) (pages s base stride (pagesFor (k + 1))) id)
+Inv-loop s base stride k id j₀ j = (j ≤ k) × (lacks j (pages s base stride (pagesFor (k + 1))) id ≡ true)
 
 abbrev μ-loop : tie.MeasureT-loop
 μ-loop s base stride k id j₀ j = k - j
@@ -25,7 +25,7 @@ read4-requires : tie.Need-read4-requires Inv-loop μ-loop
 read4-requires c κs = let p = row-fits (c .before .before .args .s .now) (c .before .before .args .base) (c .before .before .args .stride) (c .before .before .args .k + 1) (c .before .before .args .k) (c .before .before .pre) (omega arith) in omega arith
 
 loop-holds : tie.Need-loop-holds Inv-loop μ-loop
-loop-holds c = (search needs, search-begins _ _ _)
+loop-holds c = (search needs, lacks-none _ _)
 
 place-requires-2 : tie.Need-place-requires-2 Inv-loop μ-loop
 place-requires-2 c κs = let s = c .before .before .before .before .before in let p = row-fits (s .args .s .now) (s .args .base) (s .args .stride) (s .args .k + 1) (c .before .loop .j) (s .pre) (omega arith) in omega arith
