@@ -137,8 +137,11 @@ pub fitting-rows : (rows : ℕ) (mem : List ℕ) → Fitting rows mem → rowsFi
 fitting-rows rows mem f = rw (eq-eqb (length mem) tableSize (f .0), le-leb rows mostRows (f .1))
 
 -- the same of a call that tests them
+pub call-fitting : (rows : ℕ) (mem : List ℕ) {w : Bool} → w ≡ rowsFit rows mem → w ≡ true → Fitting rows mem
+call-fitting rows mem e y = rows-fitting rows mem (sym e ∙ y)
+
 pub told-fitting : (rows : ℕ) (mem : List ℕ) {w : Bool} → w ≡ rowsFit rows mem → not w ≡ false → Fitting rows mem
-told-fitting rows mem {w} e y = rows-fitting rows mem (sym e ∙ not-false w y)
+told-fitting rows mem {w} e y = call-fitting rows mem e (not-false w y)
 
 -- ---- starting
 
@@ -158,13 +161,13 @@ module _ (mem : List ℕ) {f : Board} {a : Applied} {w : Bool} (told : w ≡ isT
 -- ---- applying
 
 module _ (b : Board) (m : Message) (t : Texts) (mem : List ℕ) {a : Applied} {w : Bool} (told : w ≡ rowsFit (b .rows) mem) where
-  pub apply-unfit : not w ≡ true → a ≡ denied Unfit b → outcome a mem ≡ applyOf b m t mem
+  pub apply-unfit : w ≡ false → a ≡ denied Unfit b → outcome a mem ≡ applyOf b m t mem
   unfolding applyOf fits
-  apply-unfit n e = rw (← told, not-true w n, e)
+  apply-unfit n e = rw (← told, n, e)
 
-  pub apply-does : {zs : List ℕ} → not w ≡ false → outcome a zs ≡ effect b m t mem → outcome a zs ≡ applyOf b m t mem
+  pub apply-does : {zs : List ℕ} → w ≡ true → outcome a zs ≡ effect b m t mem → outcome a zs ≡ applyOf b m t mem
   unfolding applyOf fits
-  apply-does y e = rw (← told, not-false w y) e
+  apply-does y e = rw (← told, y) e
 
 -- by the kind of a message
 module _ (b : Board) (t : Texts) (mem : List ℕ) {m : Message} {a : Applied} where

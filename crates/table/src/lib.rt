@@ -267,8 +267,8 @@ fn dispatch(board: Board, message: Message, texts: Texts, table: &mut [u8]) -> A
 pub fn apply(board: Board, message: Message, texts: Texts, table: &mut [u8]) -> Applied
     ensures { λ r. ⌜ outcome r (now (table .exit)) ≡ applyOf board message texts (now (table .entry)) ⌝ }
 {
-    if !rows_fit(board.rows, table) {
-        return refuse(Refusal::Unfit, board);
+    if rows_fit(board.rows, table) {
+        return dispatch(board, message, texts, table);
     }
-    dispatch(board, message, texts, table)
+    refuse(Refusal::Unfit, board)
 }
