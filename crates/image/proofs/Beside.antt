@@ -16,7 +16,7 @@ use Rattle.field.proofs.Writes.{piece, run-joined}
 use Rattle.message.specs.Letters.{listed, eventCodes}
 use Rattle.block.specs.Block.{blockSize, headSize, bodySize, headAt}
 use Rattle.block.specs.declared.Head.{Head}
-use Rattle.table.specs.Memory.{mostRows, rowsFit}
+use Rattle.table.specs.Memory.{rowsFit}
 use Rattle.table.specs.Board.{freshBoard, fits}
 use Rattle.table.specs.Rules.{boardKeeps}
 use Rattle.table.specs.declared.Board.{Board}

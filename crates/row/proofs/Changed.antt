@@ -1,18 +1,17 @@
 -- The laws of changes to a row: what they leave, and what they put.
 -- Assumes nothing.
-use mathlib.Core.Path.{_≡_, refl, sym, ap, _∙_}
+use mathlib.Core.Path.{_≡_, refl, _∙_}
 use mathlib.Core.Bool.{Bool, true, false, _&&_, _||_}
 use mathlib.Core.List.{List, [], _∷_, _++_}
 use Prim.Native.Nat.{ℕ, _+_, _≤_}
-use native.Mathlib.Nat.{add-zero}
 use native.Mathlib.Omega.{arith}
 use borrow.Author.Tests.{leb-true}
 use lib.Dec.{leb}
-use lib.ListN.{length, getD}
+use lib.ListN.{length}
 use Rattle.field.specs.Bytes.{part, overlay}
 use Rattle.field.proofs.Bools.{both-left, both-right}
-use Rattle.field.proofs.Parts.{part-at, part-before, part-after, part-overlay, overlay-length}
-use Rattle.row.specs.Changes.{Change, changed, Place, place, places, outside}
+use Rattle.field.proofs.Parts.{part-before, part-after, part-overlay, overlay-length}
+use Rattle.row.specs.Changes.{Change, changed, places, outside}
 
 -- each change is as wide as it says
 abbrev pub Wide : List Change → Type 0
@@ -24,7 +23,7 @@ unfoldable pub inside : ℕ → List Change → Bool
 inside n [] = true
 inside n (c ∷ cs) = leb (c .at + c .width) n && inside n cs
 
-either : (a b : Bool) {A : Type 0} → a || b ≡ true → (a ≡ true → A) → (b ≡ true → A) → A
+pub either : (a b : Bool) {A : Type 0} → a || b ≡ true → (a ≡ true → A) → (b ≡ true → A) → A
 either true b e f g = f refl
 either false b e f g = g e
 
@@ -66,13 +65,6 @@ part-kept (c ∷ cs) r n i m w l f o =
     part-kept cs (overlay r (c .at) (c .bytes)) n i m (w .1) (still-long c cs r n (w .0) l f) (on c cs r n (w .0) l f)
     (both-right (leb (i + m) (c .at) || leb (c .at + c .width) i) (outside i m (places cs)) o)
     ∙ apart c cs r n (w .0) l f i m (both-left (leb (i + m) (c .at) || leb (c .at + c .width) i) (outside i m (places cs)) o)
-
-pub byte-kept : (cs : List Change) (r : List ℕ) (n i : ℕ) → Wide cs → n ≤ length r → inside n cs ≡ true → outside i 1 (places cs) ≡ true
-    → getD (changed cs r) i 0 ≡ getD r i 0
-byte-kept cs r n i w l f o =
-    sym (rw add-zero at (part-at (changed cs r) i 1 0 (omega arith)))
-    ∙ ap (λ (x : List ℕ). getD x 0 0) (part-kept cs r n i 1 w l f o)
-    ∙ rw add-zero at (part-at r i 1 0 (omega arith))
 
 -- a change puts its bytes, where no later one touches them
 pub part-put : (before : List Change) (c : Change) (after : List Change) (r : List ℕ) (n : ℕ) → Wide (before ++ (c ∷ after)) → n ≤ length r

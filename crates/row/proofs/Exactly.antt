@@ -3,11 +3,11 @@
 use mathlib.Core.Path.{_≡_, refl, sym, ap, _∙_}
 use mathlib.Core.Bool.{Bool, true, false, cond}
 use mathlib.Core.List.{List, [], _∷_}
-use Prim.Native.Nat.{ℕ, _+_, _^_, _≤_, _<_}
+use Prim.Native.Nat.{ℕ, _≤_, _<_}
 use native.Mathlib.Omega.{arith}
 use lib.Dec.{eqb, lit<}
 use lib.ListN.{length, replicate, length-replicate}
-use Rattle.field.specs.Bytes.{part, digits, be, bytesBe}
+use Rattle.field.specs.Bytes.{part, digits, be}
 use Rattle.field.proofs.Parts.{part-part}
 use Rattle.field.proofs.Numbers.{value-digits}
 use Rattle.message.specs.Layout.{values, tiled, bytesFor, Fit}
@@ -21,7 +21,7 @@ use Rattle.message.specs.declared.TradingAction.{TradingAction}
 use Rattle.message.specs.declared.Texts.{Texts}
 use Rattle.message.proofs.Layouts.{fields-length}
 use Rattle.row.specs.Fields.{rowSize, entrySize, entryOf, idOf, sidesOf, sideAt, other, numbersOf}
-use Rattle.row.specs.Changes.{Change, changed, Place, place, places, outside, entryChange, conditionChange, stampChange, purge, purgeFor, sidesChanges, directoryChanges, newRow, actionChanges, quoteChanges, directoryPlaces, actionPlaces, sidesPlaces, quotePlaces}
+use Rattle.row.specs.Changes.{Change, changed, Place, place, places, outside, entryChange, conditionChange, stampChange, purgeFor, sidesChanges, directoryChanges, newRow, actionChanges, quoteChanges, directoryPlaces, actionPlaces, quotePlaces}
 use Rattle.row.specs.declared.Sides.{Sides}
 use Rattle.row.specs.declared.Sides.the-variants.{One, Both}
 use Rattle.row.specs.declared.Quote.{Quote}

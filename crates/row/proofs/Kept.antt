@@ -1,12 +1,11 @@
 -- THE ROW RULES ARE KEPT by every message that keeps its own field rules.
 -- Assumes nothing.
 use mathlib.Core.Path.{_≡_, refl, sym, ap, subst, _∙_}
-use mathlib.Core.Bool.{Bool, true, false, cond, _&&_, _||_, not}
+use mathlib.Core.Bool.{Bool, true, false, cond, _&&_, _||_}
 use mathlib.Core.List.{List, [], _∷_, _++_}
-use Prim.Native.Nat.{ℕ, zero, suc, _+_, _^_, _≤_, _<_}
-use native.Mathlib.Nat.{add-zero}
+use Prim.Native.Nat.{ℕ, zero, suc, _+_, _≤_, _<_}
 use native.Mathlib.Omega.{arith}
-use borrow.Author.Tests.{eq-eqb, ne-eqb, eqb-true, leb-true, le-leb}
+use borrow.Author.Tests.{leb-true, le-leb}
 use lib.Dec.{eqb, leb, lit<}
 use lib.ListN.{length, replicate, length-replicate}
 use Rattle.field.specs.Bytes.{part, value, digits, be, bytesBe}
@@ -15,24 +14,22 @@ use Rattle.field.specs.Text.{within, every, isZero}
 use Rattle.field.proofs.Bools.{both-left, both-right}
 use Rattle.field.proofs.Parts.{part-part}
 use Rattle.field.proofs.Numbers.{value-digits}
-use Rattle.message.specs.Layout.{Value, values, keepsAll, bytesFor, tiled, from, Fit}
+use Rattle.message.specs.Layout.{values, keepsAll, bytesFor, tiled, from, Fit}
 use Rattle.message.specs.Letters.{listed, states, conditions, stampRows, stampFields, longNumbersRows, longNumbersFields, instrumentRows, instrumentFields, entryRows}
 use Rattle.message.specs.declared.Stamp.{Stamp}
 use Rattle.message.specs.declared.Side.{Side}
 use Rattle.message.specs.declared.Side.the-variants.{Bid, Ask}
 use Rattle.message.specs.declared.LongNumbers.{LongNumbers}
-use Rattle.message.specs.declared.Instrument.{Instrument}
 use Rattle.message.specs.declared.Directory.{Directory}
 use Rattle.message.specs.declared.TradingAction.{TradingAction}
 use Rattle.message.specs.declared.Texts.{Texts}
 use Rattle.message.proofs.Layouts.{values-back, values-in-part, rowsIn}
 use Rattle.message.proofs.Typed.{listed-below}
 use Rattle.row.specs.Fields.{rowSize, entrySize, entryOf, other, stateOf, conditionOf, sidesOf, sideAt, numbersOf, priceOf, timeOf, hasSeen, seenWith}
-use Rattle.row.specs.Changes.{Change, change, changed, places, outside, entryChange, stateChange, conditionChange, seenChange, numbersChange, stampChange, purge, purgeFor, sidesChanges, directoryChanges, newRow, actionChanges, quoteChanges}
+use Rattle.row.specs.Changes.{Change, change, changed, places, outside, entryChange, stateChange, conditionChange, seenChange, numbersChange, stampChange, purge, purgeFor, sidesChanges, directoryChanges, newRow, actionChanges}
 use Rattle.row.specs.Rules.{entryKeeps, marksKeep, sideKeeps, bareKeeps, stampKeeps, spareKeeps, rowKeeps}
 use Rattle.row.specs.declared.Sides.{Sides}
 use Rattle.row.specs.declared.Sides.the-variants.{One, Both}
-use Rattle.row.specs.declared.Quote.{Quote}
 use Rattle.row.proofs.Changed.{Wide, inside, part-kept, part-put}
 use Rattle.row.proofs.Exactly.{entry-wide}
 
@@ -279,7 +276,7 @@ module _ (c : ℕ) (s : Stamp) (r : List ℕ) (long : rowSize ≤ length r) (hc 
 
 -- ---- a trading action
 
-first-true : (b : Bool) → cond b true true ≡ true
+pub first-true : (b : Bool) → cond b true true ≡ true
 first-true true = refl
 first-true false = refl
 

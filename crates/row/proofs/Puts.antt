@@ -1,8 +1,8 @@
 -- The ways through the code: what it tests and writes is what the definitions say.
 -- Assumes nothing.
 use mathlib.Core.Path.{_≡_, refl, sym, ap, _∙_}
-use mathlib.Core.Bool.{Bool, true, false, cond, _&&_, _||_, not}
-use mathlib.Core.List.{List, [], _∷_, _++_}
+use mathlib.Core.Bool.{Bool, true, false, cond, _&&_, _||_}
+use mathlib.Core.List.{List, [], _∷_}
 use Prim.Native.Nat.{ℕ, _+_, _/_, _%_, _≤_}
 use native.Mathlib.Omega.{arith}
 use borrow.Author.Tests.{eq-eqb, ne-eqb}
@@ -25,7 +25,7 @@ use Rattle.message.specs.declared.Directory.{Directory}
 use Rattle.message.specs.declared.TradingAction.{TradingAction}
 use Rattle.message.specs.declared.Texts.{Texts}
 use Rattle.row.specs.Fields.{rowSize, textsIn, idOf, tradableOf, sideAt, priceOf, hasSeen, weight, seenWith, takesQuote}
-use Rattle.row.specs.Changes.{changed, entryChange, stampChange, purge, directoryChanges, unchanged, newRow, actionChanges, widened, sidesChanges, quoteChanges}
+use Rattle.row.specs.Changes.{changed, purge, directoryChanges, unchanged, newRow, actionChanges, widened, sidesChanges, quoteChanges}
 use Rattle.row.specs.Rules.{entryKeeps, marksKeep, sideKeeps}
 use Rattle.row.specs.declared.Sides.{Sides}
 use Rattle.row.specs.declared.Sides.the-variants.{One, Both}
