@@ -11,7 +11,7 @@ use lib.ListN.{length, drop, take, replicate, length-replicate}
 use lib.Seq.{length-take-le, take-at}
 use Rattle.field.specs.Bytes.{part, overlay, bytesBe}
 use Rattle.field.specs.Limits.{numberInRange}
-use Rattle.field.proofs.Parts.{part-length, part-whole, overlay-whole, overlay-next}
+use Rattle.field.proofs.Parts.{part-length, part-whole, overlay-none, overlay-whole, overlay-next}
 use Rattle.field.proofs.Numbers.{digits-length}
 use Rattle.field.proofs.Bools.{both-left, both-right}
 use Rattle.packet.specs.Stream as stream
@@ -54,13 +54,14 @@ use Rattle.image.specs.declared.Refusal as image
 use Rattle.image.proofs.Rounds.{stored}
 use Rattle.image.specs.declared.Saved.{Saved}
 use Rattle.image.specs.declared.Saved.the-variants as saved
-use Rattle.table.specs.Memory.{mostRows, tableSize}
+use Rattle.table.specs.Memory.{mostRows, tableSize, rowsFit}
 use Rattle.table.specs.Board.{fits}
 use Rattle.message.specs.declared.Message.{Message}
-use Rattle.listing.specs.Lines.{endingOf, lineOf, lineWith}
+use Rattle.listing.specs.Lines.{lineIn, lineSize, endingOf, lineOf, lineWith, noLine, shownOf}
+use Rattle.listing.specs.declared.Shown.the-variants as shown
 use Rattle.listing.specs.declared.Text.{Text}
 use Rattle.listing.specs.declared.Ending.{Ending}
-use Rattle.abi.specs.Host.{readerIn, handleBytes, noHeld, headIn, left, unheld, startedAs, startHost, StartsOn, restoredAs, restoreHost, RestoresOn, loginBytes, toldEvent, told, Gone, goneTo, movedBy, movedOf, Follows, hostStepped, steppedAs, stepHost, savedNumber, savedAs, SavedFits, saveHost, lineTo, textOf, lineHost}
+use Rattle.abi.specs.Host.{readerIn, handleBytes, noHeld, headIn, left, unheld, startedAs, startHost, StartsOn, restoredAs, restoreHost, RestoresOn, loginBytes, toldEvent, told, Gone, goneTo, movedBy, movedOf, Follows, hostStepped, steppedAs, stepHost, savedNumber, savedAs, SavedFits, saveHost, lineTo, shownTo, lineHost}
 use Rattle.abi.proofs.Heads.{head-in, memory-in, put-over}
 use Rattle.abi.proofs.Rounds.{reader-back}
 
@@ -220,21 +221,42 @@ module _ (line out : List ℕ) where
   unfolding lineTo
   line-fits after h e = rw (le-leb (length line) (length out) h, e)
 
-module _ (t : Text) (out : List ℕ) (most : t .size ≤ 80) (long : length (t .text) ≡ 80) where
-  text-length : length (textOf t) ≡ t .size
-  text-length = length-take-le (t .size) (t .text) (omega (arith, long))
+module _ (text : List ℕ) (size : ℕ) (out : List ℕ) (most : size ≤ lineSize) (long : length text ≡ lineSize) where
+  text-length : length (take size text) ≡ size
+  text-length = length-take-le size text (omega (arith, long))
 
-  pub text-short : length out < t .size → answered 25 out ≡ lineTo (textOf t) out
-  text-short h = line-short (textOf t) out (omega (arith, text-length))
+  pub text-short : length out < size → answered 25 out ≡ lineTo (take size text) out
+  text-short h = line-short (take size text) out (omega (arith, text-length))
 
-  pub text-fits : (after : List ℕ) → t .size ≤ length out → after ≡ overlay out 0 (part (t .text) 0 (t .size)) → answered (t .size * 256) after ≡ lineTo (textOf t) out
+  pub text-fits : (after : List ℕ) → size ≤ length out → after ≡ overlay out 0 (part text 0 size) → answered (size * 256) after ≡ lineTo (take size text) out
   unfolding part
-  text-fits after h e = ap (λ (n : ℕ). answered (n * 256) after) (sym text-length) ∙ line-fits (textOf t) out after (omega (arith, text-length)) e
+  text-fits after h e = ap (λ (n : ℕ). answered (n * 256) after) (sym text-length) ∙ line-fits (take size text) out after (omega (arith, text-length)) e
+
+-- what is shown, by its kind
+module _ (t : Text) (out : List ℕ) where
+  pub shown-line : (n : ℕ) {a : ℕ} {after : List ℕ} → t .shown ≡ shown.Line n → answered a after ≡ lineTo (take n (t .text)) out → answered a after ≡ shownTo t out
+  shown-line n e f = rw e f
+
+  pub shown-past : t .shown ≡ shown.Past → answered 0 out ≡ shownTo t out
+  shown-past e = rw e
+
+  pub shown-unfit : t .shown ≡ shown.Unfit → answered 20 out ≡ shownTo t out
+  shown-unfit e = rw e
 
 -- a line stands at the front of its text
-text-line : (ys : List ℕ) → textOf (lineWith ys) ≡ ys
+text-line : (ys : List ℕ) → take (length ys) (lineWith ys .text) ≡ ys
 unfolding overlay
-text-line ys = take-at ys (drop (0 + length ys) (replicate 80 0)) (length ys) refl
+text-line ys = take-at ys (drop (0 + length ys) (replicate lineSize 0)) (length ys) refl
+
+-- of rows that fit, what is shown is the line, or nothing
+shown-is : (k next rows : ℕ) (mem : List ℕ) (x : Ending) (out : List ℕ) → rowsFit rows mem ≡ true
+    → shownTo (shownOf k next rows mem x) out ≡ lineTo (lineOf k next rows mem x) out
+unfolding shownOf lineOf
+shown-is k next rows mem x out e = rw e (by (leb k (rows + 1)))
+  where
+    by : (y : Bool) → shownTo (cond y (lineWith (lineIn k next rows mem x)) (noLine shown.Past)) out ≡ lineTo (cond y (lineIn k next rows mem x) []) out
+    by true = ap (λ (ys : List ℕ). lineTo ys out) (text-line (lineIn k next rows mem x))
+    by false = line-fits [] out out (omega arith) (sym (overlay-none out 0))
 
 module _ (handle table : List ℕ) (k : ℕ) (out : List ℕ) {b : Bool} (e : b ≡ isHandle handle) where
   pub line-no-handle : not b ≡ true → answered 20 out ≡ lineHost handle table k out
@@ -251,13 +273,17 @@ module _ (handle table : List ℕ) (k : ℕ) (out : List ℕ) {b : Bool} (e : b 
     unfolding lineHost
     line-unfit j = rw (not-not-call b (isHandle handle) e f, not-call w (withinLimits (readerIn handle) table) limits j)
 
-    pub line-goes : {n : ℕ} (x : Ending) (t : Text) (after : List ℕ) → not w ≡ false → x ≡ endingOf (h .refusal) (h .ended) → t ≡ lineWith (lineOf k (h .line .next) (h .board .rows) table x)
-        → answered n after ≡ lineTo (textOf t) out → answered n after ≡ lineHost handle table k out
+    limits-fit : withinLimits (readerIn handle) table ≡ true → rowsFit (h .board .rows) table ≡ true
+    unfolding withinLimits fits
+    limits-fit y = rw g (both-left (rowsFit (headOf handle .board .rows) table) _ y)
+
+    pub line-goes : {n : ℕ} (x : Ending) (t : Text) (after : List ℕ) → not w ≡ false → x ≡ endingOf (h .refusal) (h .ended)
+        → t ≡ shownOf k (h .line .next) (h .board .rows) table x → answered n after ≡ shownTo t out → answered n after ≡ lineHost handle table k out
     unfolding lineHost
     line-goes x t after j l m o =
-        rw (not-not-call b (isHandle handle) e f, not-not-call w (withinLimits (readerIn handle) table) limits j)
-        (o ∙ ap (λ (y : Text). lineTo (textOf y) out) m
-        ∙ ap (λ (ys : List ℕ). lineTo ys out) (text-line (lineOf k (h .line .next) (h .board .rows) table x))
+        let y = not-not-call w (withinLimits (readerIn handle) table) limits j in
+        rw (not-not-call b (isHandle handle) e f, y)
+        (o ∙ ap (λ (y : Text). shownTo y out) m ∙ shown-is k (h .line .next) (h .board .rows) table x out (limits-fit y)
         ∙ ap (λ (y : Ending). lineTo (lineOf k (h .line .next) (h .board .rows) table y) out) l
         ∙ ap (λ (y : Head). lineTo (lineOf k (y .line .next) (y .board .rows) table (endingOf (y .refusal) (y .ended))) out) g)
 

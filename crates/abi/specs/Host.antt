@@ -18,6 +18,8 @@ use Rattle.block.specs.Block.{blockSize}
 use Rattle.image.specs.Shape.{mostBlocks}
 use Rattle.image.specs.declared.Saved.{Saved}
 use Rattle.listing.specs.Lines.{endingOf, lineOf}
+use Rattle.listing.specs.declared.Shown.{Shown}
+use Rattle.listing.specs.declared.Shown.the-variants as shown
 use Rattle.listing.specs.declared.Text.{Text}
 use Rattle.record.specs.Places.{recordSize}
 use Rattle.record.specs.Record.{Answered, answered, recordBytes}
@@ -198,9 +200,14 @@ SavedFits s = writtenOf s [] .count ≤ mostBlocks * blockSize
 unfoldable pub lineTo : List ℕ → List ℕ → Answered
 lineTo line out = cond (leb (length line) (length out)) (answered (length line * 256) (overlay out 0 line)) (answered 25 out)
 
--- what a text holds
-abbrev pub textOf : Text → List ℕ
-textOf t = take (t .size) (t .text)
+-- what is shown: a line, nothing past the last, 20
+abbrev pub shownAs : Shown → List ℕ → List ℕ → Answered
+shownAs (shown.Line n) text out = lineTo (take n text) out
+shownAs shown.Past text out = answered 0 out
+shownAs shown.Unfit text out = answered 20 out
+
+abbrev pub shownTo : Text → List ℕ → Answered
+shownTo t out = shownAs (t .shown) (t .text) out
 
 -- 20 for bytes that are no handle, and for a handle or table memory that breaks a limit
 unfoldable pub lineHost : List ℕ → List ℕ → ℕ → List ℕ → Answered

@@ -3,6 +3,7 @@ use handle::HANDLE_SIZE;
 use handle::HEAD_SIZE;
 use handle::Head;
 use image::Saved;
+use listing::Shown;
 use listing::Text;
 use packet::HELD_SIZE;
 use reader::Moved;
@@ -12,13 +13,14 @@ use record::RECORD_SIZE;
 ghost use mathlib.Core.Path.{_≡_};
 ghost use Prim.Native.Nat.{_≤_};
 ghost use mathlib.Core.List.{[]};
-ghost use lib.ListN.{length};
+ghost use lib.ListN.{length, take};
 ghost use Rattle.table.specs.Memory.{tableSize};
+ghost use Rattle.listing.specs.Lines.{lineSize, Short};
 ghost use Rattle.handle.specs.Handle.{handleSize};
 ghost use Rattle.record.specs.Places.{recordSize};
 ghost use Rattle.record.specs.Record.{answered, readAnswer, writeAnswer};
 ghost use Rattle.reader.specs.Saving.{writtenOf, restoreNumber};
-ghost use Rattle.abi.specs.Host.{readerIn, handleBytes, noHeld, movedOf, movedBy, Follows, GoesOn, HostSteps, HostStarts, StartsOn, HostRestores, RestoresOn, savedNumber, SavedFits, HostSaves, lineTo, textOf, lineHost};
+ghost use Rattle.abi.specs.Host.{readerIn, handleBytes, noHeld, movedOf, movedBy, Follows, GoesOn, HostSteps, HostStarts, StartsOn, HostRestores, RestoresOn, savedNumber, SavedFits, HostSaves, lineTo, shownTo, lineHost};
 
 mod told;
 
@@ -183,18 +185,30 @@ pub extern "C" fn nelqubat_write(memory: &[u8], out: &mut [u8]) -> u32
     record::write(memory, out)
 }
 
-// A line of text to the front of `out`, or 25.
-fn put_line(text: Text, out: &mut [u8]) -> u32
-    requires { ⌜ text .size ≤ 80 ⌝ }
-    ensures { λ r. ⌜ answered r (now (out .exit)) ≡ lineTo (textOf text) (now (out .entry)) ⌝ }
+// A line of so many bytes to the front of `out`, or 25.
+fn put_line(text: Text, size: usize, out: &mut [u8]) -> u32
+    requires { ⌜ size ≤ lineSize ⌝ }
+    ensures { λ r. ⌜ answered r (now (out .exit)) ≡ lineTo (take size (text .text)) (now (out .entry)) ⌝ }
 {
-    let size = text.size;
     if out.len() < size {
         return 25;
     }
     let bytes = text.text;
     field::copy(&bytes, 0, size, out, 0);
     size as u32 * 256
+}
+
+// What is shown to the front of `out`: a line, nothing past the last, or 20.
+fn put_shown(text: Text, out: &mut [u8]) -> u32
+    requires { ⌜ Short (text .shown) ⌝ }
+    ensures { λ r. ⌜ answered r (now (out .exit)) ≡ shownTo text (now (out .entry)) ⌝ }
+{
+    let shown = text.shown;
+    match shown {
+        Shown::Line(size) => put_line(text, size, out),
+        Shown::Past => 0,
+        Shown::Unfit => 20,
+    }
 }
 
 // Line k of the listing to the front of `out`; past the last line there is nothing to write.
@@ -211,5 +225,5 @@ pub extern "C" fn nelqubat_line(handle: &[u8], table: &[u8], k: usize, out: &mut
     }
     let ending = listing::ending_for(head.refusal, head.ended);
     let text = listing::line(k, head.line.next, head.board.rows, table, ending);
-    put_line(text, out)
+    put_shown(text, out)
 }

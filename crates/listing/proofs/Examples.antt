@@ -6,6 +6,8 @@ use Prim.Native.Nat.{ℕ}
 use lib.ListN.{replicate}
 use Rattle.field.specs.Bytes.{part, value, digits}
 use Rattle.field.specs.Decimal.{chars, digitChars, digitCount, digitCountIn}
+use Rattle.message.specs.Layout.{values}
+use Rattle.row.specs.Fields.{idOf}
 use Rattle.listing.specs.Lines.{nextLine, dollars, stateText, sideText, rowLine, lastLine}
 use Rattle.listing.specs.declared.Ending.the-variants.{RanOut, Ended, Refused}
 
@@ -21,7 +23,7 @@ seven =
 
 -- `7 T 1.2500 -`
 row-7 : rowLine seven ≡ 55 ∷ 32 ∷ 84 ∷ 32 ∷ 49 ∷ 46 ∷ 50 ∷ 53 ∷ 48 ∷ 48 ∷ 32 ∷ 45 ∷ 10 ∷ []
-unfolding rowLine stateText sideText dollars chars digitChars digitCount digitCountIn digits value part
+unfolding rowLine idOf values stateText sideText dollars chars digitChars digitCount digitCountIn digits value part
 row-7 = refl
 
 -- `ok`, `end`, `refused 12`

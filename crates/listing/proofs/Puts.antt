@@ -1,24 +1,26 @@
 -- The ways through the code: pieces of text, each put where the one before it ends, make a line.
 -- Assumes nothing.
-use mathlib.Core.Path.{_≡_, refl, sym, ap, _∙_}
-use mathlib.Core.Bool.{Bool, true, false, cond, _&&_}
+use mathlib.Core.Path.{_≡_, refl, sym, ap, subst, _∙_}
+use mathlib.Core.Bool.{Bool, true, false, cond, not}
 use mathlib.Core.List.{List, [], _∷_, _++_}
-use Prim.Native.Nat.{ℕ, suc, _+_, _-_, _*_, _/_, _≤_, _<_}
+use Prim.Native.Nat.{ℕ, _+_, _-_, _*_, _/_, _≤_, _<_}
 use native.Mathlib.Nat.{div-one, mod-eq-of-lt, zero-add}
 use native.Mathlib.Omega.{arith}
-use borrow.Author.Tests.{eq-eqb, ne-eqb, le-leb, lt-leb}
-use lib.Dec.{eqb, leb, lit<}
+use borrow.Author.Tests.{eq-eqb, ne-eqb, le-leb, lt-leb, not-true, not-false}
+use lib.Dec.{eqb, lit<}
 use lib.ListN.{length, length-append, replicate}
-use Rattle.field.specs.Bytes.{part, overlay, digits, be, bytesBe}
+use Rattle.field.specs.Bytes.{part, overlay, digits, bytesBe}
 use Rattle.field.specs.Decimal.{chars, digitChars, digitCount}
-use Rattle.field.proofs.Parts.{overlay-none, overlay-next, overlay-length, part-whole}
+use Rattle.field.proofs.Parts.{overlay-next, overlay-length, part-whole}
 use Rattle.field.proofs.Decimals.{chars-length}
 use Rattle.message.specs.declared.Side.{Side}
 use Rattle.message.specs.declared.Side.the-variants.{Bid, Ask}
 use Rattle.row.specs.Fields.{rowSize, idOf, stateOf, sidesOf, priceOf, hasSeen}
-use Rattle.table.specs.Memory.{mostRows, tableSize, row}
-use Rattle.listing.specs.Lines.{nextWord, okWord, endWord, refusedWord, lineEnd, nextLine, dash, dollars, stateText, sideText, rowLine, lastLine, lineIn, lineOf, lineWith}
+use Rattle.table.specs.Memory.{rowsFit, row}
+use Rattle.listing.specs.Lines.{okWord, endWord, refusedWord, lineEnd, nextLine, dash, dollars, stateText, sideText, rowLine, lastLine, lineIn, lineSize, noLine, Short, shownOf}
 use Rattle.listing.specs.declared.Text.{Text}
+use Rattle.listing.specs.declared.Shown.{Shown}
+use Rattle.listing.specs.declared.Shown.the-variants.{Line, Past, Unfit}
 use Rattle.listing.specs.declared.Ending.{Ending}
 use Rattle.listing.specs.declared.Ending.the-variants.{RanOut, Ended, Refused}
 
@@ -106,9 +108,9 @@ module _ (xs : List ℕ) (at : ℕ) (side : Side) (r : List ℕ) {sides : ℕ} {
       put-as xs at (put-then xs at (32 ∷ []) (45 ∷ []) 1 1 (omega arith) (put-byte xs at 32 (lit< tt) f) (put-byte us (at + 1) 45 (lit< tt) g))
       (sym (side-text false y)) (omega arith) (omega arith)
 
-pub row-put : (xs r : List ℕ) {id a b c d : ℕ} {s t u v zs : List ℕ} → 80 ≤ length xs → id ≡ idOf r → Put xs 0 (chars id) s a 20 → Put s a (stateText r) t b 2
+pub row-put : (xs r : List ℕ) {id a b c d : ℕ} {s t u v zs : List ℕ} → lineSize ≤ length xs → id ≡ idOf r → Put xs 0 (chars id) s a 20 → Put s a (stateText r) t b 2
     → Put t b (sideText Bid r) u c 26 → Put u c (sideText Ask r) v d 26 → zs ≡ overlay v d (bytesBe 1 10)
-    → (zs ≡ overlay xs 0 (rowLine r)) × ((d + 1 ≡ length (rowLine r)) × (d + 1 ≤ 80))
+    → (zs ≡ overlay xs 0 (rowLine r)) × ((d + 1 ≡ length (rowLine r)) × (d + 1 ≤ lineSize))
 unfolding rowLine
 row-put xs r {id} {a} {b} {c} {d} {s} {t} {u} {v} {zs} h i p q w x f =
     let ls : length s ≡ length xs = lengths xs 0 (chars id) (omega (arith, p .1 .0, p .1 .1)) (p .0) in
@@ -119,7 +121,7 @@ row-put xs r {id} {a} {b} {c} {d} {s} {t} {u} {v} {zs} h i p q w x f =
     let three = put-then t b (sideText Bid r) (sideText Ask r ++ lineEnd) 26 27 (omega (arith, p .1 .1, q .1 .1)) w four in
     let two = put-then s a (stateText r) (sideText Bid r ++ (sideText Ask r ++ lineEnd)) 2 53 (omega (arith, p .1 .1)) q three in
     let one = put-then xs 0 (chars id) (stateText r ++ (sideText Bid r ++ (sideText Ask r ++ lineEnd))) 20 55 (omega arith) p two in
-    let line = put-as xs 0 {most = 75} {most′ = 80} one (ap (λ (x : ℕ). chars x ++ (stateText r ++ (sideText Bid r ++ (sideText Ask r ++ lineEnd)))) i) refl (omega arith) in
+    let line = put-as xs 0 {most = 75} {most′ = lineSize} one (ap (λ (x : ℕ). chars x ++ (stateText r ++ (sideText Bid r ++ (sideText Ask r ++ lineEnd)))) i) refl (omega arith) in
     (line .0, (line .1 .0 ∙ zero-add (length (rowLine r)), omega (arith, line .1 .1)))
 
 -- ---- the other lines
@@ -128,9 +130,9 @@ row-put xs r {id} {a} {b} {c} {d} {s} {t} {u} {v} {zs} h i p q w x f =
 word-put : (xs word : List ℕ) {us : List ℕ} → us ≡ overlay xs 0 (part word 0 (length word)) → length word ≤ 8 → Put xs 0 word us (length word) 8
 word-put xs word e h = (e ∙ ap (overlay xs 0) (part-whole word (length word) refl), (sym (zero-add (length word)), omega arith))
 
-module _ (xs word : List ℕ) {us : List ℕ} (h : 80 ≤ length xs) (short : length word ≤ 8) (e : us ≡ overlay xs 0 (part word 0 (length word))) where
+module _ (xs word : List ℕ) {us : List ℕ} (h : lineSize ≤ length xs) (short : length word ≤ 8) (e : us ≡ overlay xs 0 (part word 0 (length word))) where
   pub number-line : (v : ℕ) {end : ℕ} {vs zs : List ℕ} → Put us (length word) (chars v) vs end 20 → zs ≡ overlay vs end (bytesBe 1 10)
-      → (zs ≡ overlay xs 0 (word ++ (chars v ++ lineEnd))) × ((end + 1 ≡ length (word ++ (chars v ++ lineEnd))) × (end + 1 ≤ 80))
+      → (zs ≡ overlay xs 0 (word ++ (chars v ++ lineEnd))) × ((end + 1 ≡ length (word ++ (chars v ++ lineEnd))) × (end + 1 ≤ lineSize))
   number-line v {end} {vs} {zs} f g =
       let u : length us ≡ length xs = lengths xs 0 word (omega arith) (word-put xs word e short .0) in
       let rest = put-then us (length word) (chars v) lineEnd 20 1 (omega arith) f (put-byte vs end 10 (lit< tt) g) in
@@ -138,7 +140,7 @@ module _ (xs word : List ℕ) {us : List ℕ} (h : 80 ≤ length xs) (short : le
       (line .0, (line .1 .0 ∙ zero-add (length (word ++ (chars v ++ lineEnd))), omega (arith, line .1 .1)))
 
   pub word-line : {zs : List ℕ} → zs ≡ overlay us (length word) (bytesBe 1 10)
-      → (zs ≡ overlay xs 0 (word ++ lineEnd)) × ((length word + 1 ≡ length (word ++ lineEnd)) × (length word + 1 ≤ 80))
+      → (zs ≡ overlay xs 0 (word ++ lineEnd)) × ((length word + 1 ≡ length (word ++ lineEnd)) × (length word + 1 ≤ lineSize))
   word-line {zs} g =
       let line = put-then xs 0 word lineEnd 8 1 (omega arith) (word-put xs word e short) (put-byte us (length word) 10 (lit< tt) g) in
       (line .0, (line .1 .0 ∙ zero-add (length (word ++ lineEnd)), omega (arith, line .1 .1)))
@@ -146,49 +148,46 @@ module _ (xs word : List ℕ) {us : List ℕ} (h : 80 ≤ length xs) (short : le
 -- ---- which line
 
 -- an answer that is the line that is asked for
-abbrev Line : List ℕ → List ℕ → List ℕ → ℕ → Type 0
-Line xs ys zs r = (zs ≡ overlay xs 0 ys) × ((r ≡ length ys) × (r ≤ 80))
+abbrev Written : List ℕ → List ℕ → List ℕ → ℕ → Type 0
+Written xs ys zs r = (zs ≡ overlay xs 0 ys) × ((r ≡ length ys) × (r ≤ lineSize))
 
-pub line-as : (xs : List ℕ) (ys ys′ : List ℕ) {zs : List ℕ} {r : ℕ} → ys ≡ ys′ → Line xs ys zs r → Line xs ys′ zs r
+pub line-as : (xs : List ℕ) (ys ys′ : List ℕ) {zs : List ℕ} {r : ℕ} → ys ≡ ys′ → Written xs ys zs r → Written xs ys′ zs r
 line-as xs ys ys′ e p = (p .0 ∙ ap (overlay xs 0) e, (p .1 .0 ∙ ap length e, p .1 .1))
-
--- the answer that holds it
-pub line-made : (ys zs : List ℕ) {r : ℕ} → Line (replicate 80 0) ys zs r → (_≡_ {A = Text} (record { text = zs; size = r }) (lineWith ys)) × (r ≤ 80)
-line-made ys zs p = (rw (p .0, p .1 .0), p .1 .1)
-
-pub no-line : (xs : List ℕ) (ys : List ℕ) → [] ≡ ys → Line xs ys xs 0
-no-line xs ys e = line-as xs [] ys e (sym (overlay-none xs 0), (refl, omega arith))
 
 module _ (k next rows : ℕ) (mem : List ℕ) (ending : Ending) where
   pub line-next : k ≡ 0 → nextLine next ≡ lineIn k next rows mem ending
   unfolding lineIn
   line-next e = rw (eq-eqb k 0 e)
 
-  pub line-row : (k ≡ 0 → ⊥) → k ≤ rows → rowLine (part mem ((k - 1) * 124) ((k - 1) * 124 + 124 - (k - 1) * 124)) ≡ lineIn k next rows mem ending
+  pub line-row : (k ≡ 0 → ⊥) → k ≤ rows → rowLine (part mem ((k - 1) * rowSize) ((k - 1) * rowSize + rowSize - (k - 1) * rowSize)) ≡ lineIn k next rows mem ending
   unfolding lineIn row
   line-row n h =
-      let e : (k - 1) * 124 + 124 - (k - 1) * 124 ≡ 124 = omega arith in
+      let e : (k - 1) * rowSize + rowSize - (k - 1) * rowSize ≡ rowSize = omega arith in
       rw (ne-eqb k 0 n, le-leb k rows h, e)
 
-  pub line-last : (k ≡ 0 → ⊥) → rows < k → k ≡ rows + 1 → lastLine ending ≡ lineIn k next rows mem ending
+  pub line-last : (k ≡ 0 → ⊥) → rows < k → lastLine ending ≡ lineIn k next rows mem ending
   unfolding lineIn
-  line-last n h e = rw (ne-eqb k 0 n, lt-leb k rows h, eq-eqb k (rows + 1) e)
+  line-last n h = rw (ne-eqb k 0 n, lt-leb k rows h)
 
-  pub line-none : (k ≡ 0 → ⊥) → rows < k → (k ≡ rows + 1 → ⊥) → [] ≡ lineIn k next rows mem ending
-  unfolding lineIn
-  line-none n h e = rw (ne-eqb k 0 n, lt-leb k rows h, ne-eqb k (rows + 1) e)
+  -- what is shown, by the test of memory and rows
+  module _ {w : Bool} (told : w ≡ rowsFit rows mem) where
+    pub shown-unfit : not w ≡ true → noLine Unfit ≡ shownOf k next rows mem ending
+    unfolding shownOf
+    shown-unfit n = rw (← told, not-true w n)
 
-  pub unfit-none : (length mem ≡ 31744 → ⊥) → [] ≡ lineOf k next rows mem ending
-  unfolding lineOf
-  unfit-none n = rw (ne-eqb (length mem) 31744 n)
+    module _ (y : not w ≡ false) where
+      pub shown-past : rows + 1 < k → noLine Past ≡ shownOf k next rows mem ending
+      unfolding shownOf
+      shown-past h = rw (← told, not-false w y, lt-leb k (rows + 1) h)
 
-  pub many-none : length mem ≡ 31744 → 256 < rows → [] ≡ lineOf k next rows mem ending
-  unfolding lineOf
-  many-none y n = rw (eq-eqb (length mem) 31744 y, lt-leb rows 256 n)
+      pub shown-line : k ≤ rows + 1 → (zs : List ℕ) {r : ℕ} → Written (replicate lineSize 0) (lineIn k next rows mem ending) zs r
+          → _≡_ {A = Text} (record { text = zs; shown = Line r }) (shownOf k next rows mem ending)
+      unfolding shownOf
+      shown-line h zs p = rw (← told, not-false w y, le-leb k (rows + 1) h, p .0, p .1 .0)
 
-  pub line-fits : length mem ≡ 31744 → rows ≤ 256 → lineIn k next rows mem ending ≡ lineOf k next rows mem ending
-  unfolding lineOf
-  line-fits y h = rw (eq-eqb (length mem) 31744 y, le-leb rows 256 h)
+-- a line that is shown is not too long
+pub short-line : (shown : Shown) (n : ℕ) → Short shown → shown ≡ Line n → n ≤ lineSize
+short-line shown n h e = subst Short e h
 
 -- the last line, by how the input ended
 module _ (ending : Ending) where

@@ -1,7 +1,7 @@
 -- The listing's lines.
 -- Assumes nothing.
-use Prim.Native.Nat.{ℕ, zero, suc, _+_, _-_, _/_}
-use mathlib.Core.Bool.{Bool, _&&_, cond}
+use Prim.Native.Nat.{ℕ, zero, suc, _+_, _-_, _/_, _≤_}
+use mathlib.Core.Bool.{_&&_, cond}
 use mathlib.Core.List.{List, [], _∷_, _++_}
 use lib.Dec.{eqb, leb}
 use lib.ListN.{length, replicate}
@@ -10,8 +10,10 @@ use Rattle.field.specs.Decimal.{chars, digitChars}
 use Rattle.message.specs.declared.Side.{Side}
 use Rattle.message.specs.declared.Side.the-variants.{Bid, Ask}
 use Rattle.row.specs.Fields.{idOf, stateOf, sidesOf, priceOf, hasSeen}
-use Rattle.table.specs.Memory.{mostRows, tableSize, row}
+use Rattle.table.specs.Memory.{rowsFit, row}
 use Rattle.listing.specs.declared.Text.{Text}
+use Rattle.listing.specs.declared.Shown.{Shown}
+use Rattle.listing.specs.declared.Shown.the-variants.{Line, Past, Unfit}
 use Rattle.listing.specs.declared.Ending.{Ending}
 use Rattle.listing.specs.declared.Ending.the-variants.{RanOut, Ended, Refused}
 
@@ -75,17 +77,32 @@ lastLine (Refused n) = refusedWord ++ (chars n ++ lineEnd)
 
 unfoldable pub lineIn : ℕ → ℕ → ℕ → List ℕ → Ending → List ℕ
 lineIn k next rows mem ending =
-    cond (eqb k 0) (nextLine next)
-    (cond (leb k rows) (rowLine (row (k - 1) mem)) (cond (eqb k (rows + 1)) (lastLine ending) []))
+    cond (eqb k 0) (nextLine next) (cond (leb k rows) (rowLine (row (k - 1) mem)) (lastLine ending))
 
--- memory that is no table has no lines
-unfoldable pub lineOf : ℕ → ℕ → ℕ → List ℕ → Ending → List ℕ
-lineOf k next rows mem ending =
-    cond (eqb (length mem) tableSize && leb rows mostRows) (lineIn k next rows mem ending) []
+-- no line is longer
+abbrev pub lineSize : ℕ
+lineSize = 80
 
 -- a line as it is handed out: with zeros behind it, and its length
 abbrev pub lineWith : List ℕ → Text
-lineWith ys = record { text = overlay (replicate 80 0) 0 ys; size = length ys }
+lineWith ys = record { text = overlay (replicate lineSize 0) 0 ys; shown = Line (length ys) }
+
+abbrev pub noLine : Shown → Text
+noLine why = record { text = replicate lineSize 0; shown = why }
+
+-- what is shown: 20 for rows that do not fit their memory; nothing past the last line
+unfoldable pub shownOf : ℕ → ℕ → ℕ → List ℕ → Ending → Text
+shownOf k next rows mem ending =
+    cond (rowsFit rows mem) (cond (leb k (rows + 1)) (lineWith (lineIn k next rows mem ending)) (noLine Past)) (noLine Unfit)
+
+abbrev pub Short : Shown → Type 0
+Short (Line n) = n ≤ lineSize
+Short Past = Unit
+Short Unfit = Unit
+
+-- the same as text, empty where no line is shown
+unfoldable pub lineOf : ℕ → ℕ → ℕ → List ℕ → Ending → List ℕ
+lineOf k next rows mem ending = cond (rowsFit rows mem && leb k (rows + 1)) (lineIn k next rows mem ending) []
 
 -- the first n lines
 unfoldable pub linesOf : ℕ → ℕ → ℕ → List ℕ → Ending → List ℕ

@@ -10,16 +10,26 @@ ghost use lib.ListN.{length};
 ghost use Rattle.field.specs.Bytes.{overlay};
 ghost use Rattle.field.specs.Decimal.{chars};
 ghost use Rattle.row.specs.Fields.{rowSize};
-ghost use Rattle.table.specs.Memory.{mostRows, tableSize};
-ghost use Rattle.listing.specs.Lines.{endingOf, lineEnd, nextLine, dash, dollars, stateText, sideText, rowLine, lastLine, lineIn, lineOf, lineWith};
+ghost use Rattle.table.specs.Memory.{Fitting};
+ghost use Rattle.listing.specs.Lines.{endingOf, lineEnd, nextLine, dash, dollars, stateText, sideText, rowLine, lastLine, lineIn, lineSize, Short, shownOf};
 
 // No line is longer.
 pub const LINE_SIZE: usize = 80;
 
-// A line, and zeros behind it.
+// What there is to show for the number of a line.
+pub enum Shown {
+    // A line of so many bytes.
+    Line(usize),
+    // The listing has no such line.
+    Past,
+    // Memory of the wrong length, or more rows than it has.
+    Unfit,
+}
+
+// The bytes of a line, and zeros behind them.
 pub struct Text {
     pub text: [u8; LINE_SIZE],
-    pub size: usize,
+    pub shown: Shown,
 }
 
 // How the input ended.
@@ -102,9 +112,9 @@ fn put_side(out: &mut [u8], at: usize, row: &[u8], side: Side) -> usize
 }
 
 fn row_line(row: &[u8], out: &mut [u8]) -> usize
-    requires { ⌜ (80 ≤ length (now out)) × (rowSize ≤ length (now row)) ⌝ }
+    requires { ⌜ (lineSize ≤ length (now out)) × (rowSize ≤ length (now row)) ⌝ }
     ensures { λ r. ⌜ now (out .exit) ≡ overlay (now (out .entry)) 0 (rowLine (now (row .entry))) ⌝ }
-    ensures { λ r. ⌜ (r ≡ length (rowLine (now (row .entry)))) × (r ≤ 80) ⌝ }
+    ensures { λ r. ⌜ (r ≡ length (rowLine (now (row .entry)))) × (r ≤ lineSize) ⌝ }
 {
     let id = fields::id(row) as u64;
     let state = number(out, 0, id);
@@ -117,9 +127,9 @@ fn row_line(row: &[u8], out: &mut [u8]) -> usize
 
 // A word, a number and the line's end.
 fn word_and_number(word: &[u8], v: u64, out: &mut [u8]) -> usize
-    requires { ⌜ (80 ≤ length (now out)) × (length (now word) ≤ 8) ⌝ }
+    requires { ⌜ (lineSize ≤ length (now out)) × (length (now word) ≤ 8) ⌝ }
     ensures { λ r. ⌜ now (out .exit) ≡ overlay (now (out .entry)) 0 (now (word .entry) ++ (chars v ++ lineEnd)) ⌝ }
-    ensures { λ r. ⌜ (r ≡ length (now (word .entry) ++ (chars v ++ lineEnd))) × (r ≤ 80) ⌝ }
+    ensures { λ r. ⌜ (r ≡ length (now (word .entry) ++ (chars v ++ lineEnd))) × (r ≤ lineSize) ⌝ }
 {
     let n = word.len();
     field::copy(word, 0, n, out, 0);
@@ -130,9 +140,9 @@ fn word_and_number(word: &[u8], v: u64, out: &mut [u8]) -> usize
 
 // A word and the line's end.
 fn word_alone(word: &[u8], out: &mut [u8]) -> usize
-    requires { ⌜ (80 ≤ length (now out)) × (length (now word) ≤ 8) ⌝ }
+    requires { ⌜ (lineSize ≤ length (now out)) × (length (now word) ≤ 8) ⌝ }
     ensures { λ r. ⌜ now (out .exit) ≡ overlay (now (out .entry)) 0 (now (word .entry) ++ lineEnd) ⌝ }
-    ensures { λ r. ⌜ (r ≡ length (now (word .entry) ++ lineEnd)) × (r ≤ 80) ⌝ }
+    ensures { λ r. ⌜ (r ≡ length (now (word .entry) ++ lineEnd)) × (r ≤ lineSize) ⌝ }
 {
     let n = word.len();
     field::copy(word, 0, n, out, 0);
@@ -141,9 +151,9 @@ fn word_alone(word: &[u8], out: &mut [u8]) -> usize
 }
 
 fn last_line(ending: Ending, out: &mut [u8]) -> usize
-    requires { ⌜ 80 ≤ length (now out) ⌝ }
+    requires { ⌜ lineSize ≤ length (now out) ⌝ }
     ensures { λ r. ⌜ now (out .exit) ≡ overlay (now (out .entry)) 0 (lastLine ending) ⌝ }
-    ensures { λ r. ⌜ (r ≡ length (lastLine ending)) × (r ≤ 80) ⌝ }
+    ensures { λ r. ⌜ (r ≡ length (lastLine ending)) × (r ≤ lineSize) ⌝ }
 {
     match ending {
         Ending::RanOut => word_alone(b"ok", out),
@@ -153,9 +163,9 @@ fn last_line(ending: Ending, out: &mut [u8]) -> usize
 }
 
 fn next_line(next: u64, out: &mut [u8]) -> usize
-    requires { ⌜ 80 ≤ length (now out) ⌝ }
+    requires { ⌜ lineSize ≤ length (now out) ⌝ }
     ensures { λ r. ⌜ now (out .exit) ≡ overlay (now (out .entry)) 0 (nextLine next) ⌝ }
-    ensures { λ r. ⌜ (r ≡ length (nextLine next)) × (r ≤ 80) ⌝ }
+    ensures { λ r. ⌜ (r ≡ length (nextLine next)) × (r ≤ lineSize) ⌝ }
 {
     word_and_number(b"next ", next, out)
 }
@@ -168,9 +178,9 @@ fn some_line(
     ending: Ending,
     out: &mut [u8],
 ) -> usize
-    requires { ⌜ (80 ≤ length (now out)) × ((length (now table) ≡ tableSize) × (rows ≤ mostRows)) ⌝ }
+    requires { ⌜ (lineSize ≤ length (now out)) × Fitting rows (now table) ⌝ }
     ensures { λ r. ⌜ now (out .exit) ≡ overlay (now (out .entry)) 0 (lineIn k next rows (now (table .entry)) ending) ⌝ }
-    ensures { λ r. ⌜ (r ≡ length (lineIn k next rows (now (table .entry)) ending)) × (r ≤ 80) ⌝ }
+    ensures { λ r. ⌜ (r ≡ length (lineIn k next rows (now (table .entry)) ending)) × (r ≤ lineSize) ⌝ }
 {
     if k == 0 {
         return next_line(next, out);
@@ -180,23 +190,29 @@ fn some_line(
         let to = from + row::ROW_SIZE;
         return row_line(&table[from..to], out);
     }
-    if k == rows + 1 {
-        return last_line(ending, out);
-    }
-    0
+    last_line(ending, out)
 }
 
-// Line k of the listing; one of no length where there is no such line.
+// Line k of the listing.
 pub fn line(k: usize, next: u64, rows: usize, table: &[u8], ending: Ending) -> Text
-    ensures { λ r. ⌜ (r ≡ lineWith (lineOf k next rows (now (table .entry)) ending)) × (r .size ≤ 80) ⌝ }
+    ensures { λ r. ⌜ (r ≡ shownOf k next rows (now (table .entry)) ending) × Short (r .shown) ⌝ }
 {
     let mut text = [0; LINE_SIZE];
-    if table.len() != table::TABLE_SIZE {
-        return Text { text, size: 0 };
+    if !table::rows_fit(rows, table) {
+        return Text {
+            text,
+            shown: Shown::Unfit,
+        };
     }
-    if table::MOST_ROWS < rows {
-        return Text { text, size: 0 };
+    if rows + 1 < k {
+        return Text {
+            text,
+            shown: Shown::Past,
+        };
     }
     let size = some_line(k, next, rows, table, ending, &mut text);
-    Text { text, size }
+    Text {
+        text,
+        shown: Shown::Line(size),
+    }
 }

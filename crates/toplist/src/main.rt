@@ -9,6 +9,7 @@ use libc::STDERR_FILENO;
 use libc::STDIN_FILENO;
 use libc::STDOUT_FILENO;
 use listing::Ending;
+use listing::Shown;
 use reader::Reader;
 use session::Heard;
 use table::MOST_ROWS;
@@ -70,26 +71,49 @@ fn print_not(what: &[u8], why: &[u8], number: u8) {
     io::write_all(STDERR_FILENO, b"\n");
 }
 
-// One line of the listing; was it written?
-fn print_line(k: usize, reader: Reader, table: &[u8], ending: Ending) -> bool {
+// What became of a line of the listing: it was written, there is none, or it could not be, which was said.
+enum Printed {
+    Line,
+    Past,
+    Failed,
+}
+
+fn print_text(text: &[u8]) -> Printed {
+    if io::write_all(STDOUT_FILENO, text) {
+        return Printed::Line;
+    }
+    files::complain_output();
+    Printed::Failed
+}
+
+fn print_line(k: usize, reader: Reader, table: &[u8], ending: Ending) -> Printed {
     let line = reader.line;
     let board = reader.board;
     let shown = listing::line(k, line.next, board.rows, table, ending);
     let text = shown.text;
-    let n = shown.size;
-    io::write_all(STDOUT_FILENO, &text[..n])
+    let what = shown.shown;
+    match what {
+        Shown::Line(n) => print_text(&text[..n]),
+        Shown::Past => Printed::Past,
+        Shown::Unfit => {
+            print_not(
+                b"the table",
+                b": not listed: refused ",
+                table::refusal_number(table::Refusal::Unfit),
+            );
+            Printed::Failed
+        }
+    }
 }
 
-// A line for each row, and one before and after them; were all of them written?
+// Line by line, as far as there are any; were all of them written?
 fn print_listing(reader: Reader, table: &[u8], ending: Ending) -> bool {
-    let last = reader.board.rows;
     let mut k = 0;
     while k < MOST_LINES {
-        if !print_line(k, reader, table, ending) {
-            return false;
-        }
-        if k > last {
-            return true;
+        match print_line(k, reader, table, ending) {
+            Printed::Line => {}
+            Printed::Past => return true,
+            Printed::Failed => return false,
         }
         k += 1;
     }
@@ -211,7 +235,6 @@ fn finish(wanted: Wanted, reader: Reader, table: &[u8], path: &mut [u8]) -> u8 {
     let ending = listing::ending_for(reader.refusal, reader.ended);
     let is_saved = save_to(wanted.save, reader, table, path);
     if !print_listing(reader, table, ending) {
-        files::complain_output();
         return FAILED;
     }
     if !is_saved {

@@ -33,8 +33,8 @@ returns-2 c =
 returns-3 : tie.Need-returns-3
 unfolding part
 returns-3 c =
-    let at-put-line = c .before .before in
-    let at-line = at-put-line .before .before in
+    let at-put-shown = c .before .before in
+    let at-line = at-put-shown .before .before in
     let at-ending = at-line .before in
     let at-if2 = at-ending .before in
     let at-within-limits = at-if2 .before in
@@ -42,7 +42,7 @@ returns-3 c =
     let at-if1 = at-read-head .before in
     let at-is-handle = at-if1 .before in
     let start = at-is-handle .before .before .before .before in
-    line-goes (now (start .args .handle)) (now (start .args .table)) (start .args .k) (now (start .args .out)) (at-is-handle .is-handle .ensures) (at-if1 .if1 .left) (at-read-head .read-head .result) (at-read-head .read-head .ensures) (at-within-limits .within-limits .ensures) (at-ending .ending-for .result) (at-line .line .result) _ (at-if2 .if2 .left) (at-ending .ending-for .ensures) (at-line .line .ensures .0) (at-put-line .put-line .ensures)
+    line-goes (now (start .args .handle)) (now (start .args .table)) (start .args .k) (now (start .args .out)) (at-is-handle .is-handle .ensures) (at-if1 .if1 .left) (at-read-head .read-head .result) (at-read-head .read-head .ensures) (at-within-limits .within-limits .ensures) (at-ending .ending-for .result) (at-line .line .result) _ (at-if2 .if2 .left) (at-ending .ending-for .ensures) (at-line .line .ensures .0) (at-put-shown .put-shown .ensures)
 
 pub nelqubat-line-spec : {M : Type 1} → statement M
 nelqubat-line-spec =

@@ -1,20 +1,30 @@
 -- `toplist::print_line` meets its contract.
 -- Assumes nothing.
 use mathlib.Core.Path.{_≡_}
+use Prim.Native.Nat.{_≤_}
 use native.Mathlib.Omega.{arith}
 use borrow.Author.Needs.{needs}
 use lib.ListN.{length}
+use Rattle.listing.specs.Lines.{lineSize}
+use Rattle.listing.proofs.Puts.{short-line}
 use Rattle.toplist.proofs.Fronts.{front-length}
 use Rattle.toplist.proofs.print_line.Statement.{statement}
 use Rattle.toplist.proofs.print_line.Tie as tie
 
+-- the line that is shown lies in its text
+inside : (c : tie.After-known-told) → c .before .what .given .0 .0 ≤ length (c .before .before .before .before .line2 .result .text)
+inside c =
+    let at-line = c .before .before .before .before in
+    let long : length (at-line .line2 .result .text) ≡ lineSize = search needs in
+    omega (arith, long, short-line (at-line .line2 .result .shown) (c .before .what .given .0 .0) (at-line .line2 .ensures .1) (c .before .what .given .1))
+
 array-share-prefix-text : tie.Need-array-share-prefix-text
-array-share-prefix-text c = let h : length (c .before .line2 .result .text) ≡ 80 = search needs in omega (arith, c .before .line2 .ensures .1)
+array-share-prefix-text c = inside c
 
 slice-aggregate-write-all : tie.Need-slice-aggregate-write-all
-slice-aggregate-write-all c = let h : length (c .before .before .line2 .result .text) ≡ 80 = search needs in front-length _ _ (omega (arith, c .before .before .line2 .ensures .1))
+slice-aggregate-write-all c = front-length _ _ (inside (c .before))
 
 pub print-line-spec : {M : Type 1} → statement M
 print-line-spec =
     tie.close
-    (tie.spec (λ c κs. search needs) array-share-prefix-text slice-aggregate-write-all (λ c κs. search needs) (λ c. search needs))
+    (tie.spec (λ c κs. search needs) (λ c. search needs) array-share-prefix-text slice-aggregate-write-all (λ c κs. search needs) (λ c. search needs) (λ c. search needs) (λ c. search needs) (λ c. search needs) (λ c κs. search needs) (λ c κs. search needs) (λ c. search needs) (λ c. search needs) (λ c. search needs))
