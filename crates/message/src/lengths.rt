@@ -3,27 +3,37 @@ use crate::Message;
 ghost use mathlib.Core.Path.{_≡_};
 ghost use Rattle.message.specs.Letters.{letters, letterIn, letterFor, lengthIn};
 
+pub const SYSTEM_EVENT: usize = 12;
+pub const DIRECTORY: usize = 63;
+pub const TRADING_ACTION: usize = 16;
+pub const SHORT_QUOTE: usize = 36;
+pub const LONG_QUOTE: usize = 56;
+pub const SHORT_SIDE: usize = 26;
+pub const LONG_SIDE: usize = 36;
+pub const END_OF_REPLAY: usize = 21;
+
+// Letters and lengths, by turns.
 pub const LENGTHS: [u8; 20] = [
     b'S',
-    12,
+    SYSTEM_EVENT as u8,
     b'm',
-    63,
+    DIRECTORY as u8,
     b'H',
-    16,
+    TRADING_ACTION as u8,
     b'q',
-    36,
+    SHORT_QUOTE as u8,
     b'Q',
-    56,
+    LONG_QUOTE as u8,
     b'b',
-    26,
+    SHORT_SIDE as u8,
     b'a',
-    26,
+    SHORT_SIDE as u8,
     b'B',
-    36,
+    LONG_SIDE as u8,
     b'A',
-    36,
+    LONG_SIDE as u8,
     b'M',
-    21,
+    END_OF_REPLAY as u8,
 ];
 
 // What a table of letters and lengths, by turns, gives for a letter; 0 for one that is not listed.
@@ -50,13 +60,13 @@ pub fn length_for(message: Message) -> usize
     ensures { λ r. ⌜ r ≡ letterFor message .size ⌝ }
 {
     match message {
-        Message::SystemEvent(_) => 12,
-        Message::Directory(_) => 63,
-        Message::TradingAction(_) => 16,
-        Message::ShortQuote(_) => 36,
-        Message::LongQuote(_) => 56,
-        Message::ShortSide(_) => 26,
-        Message::LongSide(_) => 36,
-        Message::EndOfReplay(_) => 21,
+        Message::SystemEvent(_) => SYSTEM_EVENT,
+        Message::Directory(_) => DIRECTORY,
+        Message::TradingAction(_) => TRADING_ACTION,
+        Message::ShortQuote(_) => SHORT_QUOTE,
+        Message::LongQuote(_) => LONG_QUOTE,
+        Message::ShortSide(_) => SHORT_SIDE,
+        Message::LongSide(_) => LONG_SIDE,
+        Message::EndOfReplay(_) => END_OF_REPLAY,
     }
 }
