@@ -14,7 +14,7 @@ use Rattle.field.proofs.Numbers.{digits-length}
 use Rattle.field.proofs.Decimals.{before-length, count-most}
 use Rattle.field.proofs.Writes.{Piece, piece, run-joined}
 use Rattle.message.specs.Layout.{bytesFor}
-use Rattle.message.specs.Letters.{stampRows, stampFields, systemEventRows, systemEventFields, instrumentRows, instrumentFields, directoryRows, directoryFields, quoteRows, quoteFields, shortNumbersRows, shortNumbersFields, longNumbersRows, longNumbersFields, shortQuoteRows, shortQuoteFields, longQuoteRows, longQuoteFields, shortSideCode, shortSideRows, shortSideFields, longSideCode, longSideRows, longSideFields, endOfReplayRows, endOfReplayFields}
+use Rattle.message.specs.Letters.{stampRows, stampFields, systemEventRows, systemEventFields, instrumentRows, instrumentFields, directoryRows, directoryFields, quoteRows, quoteFields, shortNumbersRows, shortNumbersFields, longNumbersRows, longNumbersFields, shortQuoteRows, shortQuoteFields, longQuoteRows, longQuoteFields, shortSideCode, shortSideRows, shortSideFields, longSideCode, longSideRows, longSideFields, endOfReplayRows, endOfReplayFields, entrySize, systemEventLetter, directoryLetter, shortQuoteLetter, longQuoteLetter, shortSideLetter, longSideLetter, endOfReplayLetter}
 use Rattle.message.specs.declared.Stamp.{Stamp}
 use Rattle.message.specs.declared.ShortNumbers.{ShortNumbers}
 use Rattle.message.specs.declared.LongNumbers.{LongNumbers}
@@ -111,7 +111,7 @@ terms-put xs m t {us} {vs} {ws} {zs} y o d l h e f g i =
     (l, (refl, (refl, (refl, tt)))) h e (vs, f ∙ ap (overlay us 12) (three-marks (m .year) (m .month) (m .day) y o d), (ws, g, (zs, i, refl)))
 
 pub market-put : (xs : List ℕ) (m : Instrument) (t : Texts) {us vs zs : List ℕ} → m .closing < 256 → m .tradable < 256 → m .variation < 256 → length (t .underlying) ≡ 13
-    → length (t .reserved) ≡ 16 → 52 ≤ length xs → us ≡ overlay xs 20 (t .underlying) → vs ≡ overlay us 33 (part (m .closing ∷ m .tradable ∷ m .variation ∷ []) 0 3) → zs ≡ overlay vs 36 (t .reserved)
+    → length (t .reserved) ≡ 16 → entrySize ≤ length xs → us ≡ overlay xs 20 (t .underlying) → vs ≡ overlay us 33 (part (m .closing ∷ m .tradable ∷ m .variation ∷ []) 0 3) → zs ≡ overlay vs 36 (t .reserved)
     → zs ≡ overlay xs 20 (marketBytes m t)
 unfolding digits
 market-put xs m t {us} {vs} {zs} a b d l k h e f g =
@@ -119,7 +119,7 @@ market-put xs m t {us} {vs} {zs} a b d l k h e f g =
     ∙ ap (λ (r : List ℕ). overlay xs 20 (t .underlying ++ (marksBytes m ++ r))) (append-nil (t .reserved))
 
 pub instrument-put : (xs : List ℕ) (m : Instrument) (t : Texts) {us vs zs : List ℕ} → length (t .symbol) ≡ 8 → length (t .underlying) ≡ 13 → length (t .reserved) ≡ 16
-    → 52 ≤ length xs → us ≡ overlay xs 0 (bytesBe 4 (m .id)) → vs ≡ overlay us 4 (termsBytes m t) → zs ≡ overlay vs 20 (marketBytes m t)
+    → entrySize ≤ length xs → us ≡ overlay xs 0 (bytesBe 4 (m .id)) → vs ≡ overlay us 4 (termsBytes m t) → zs ≡ overlay vs 20 (marketBytes m t)
     → zs ≡ overlay xs 0 (bytesFor instrumentRows (instrumentFields m t))
 unfolding digits bytesFor
 instrument-put xs m t {us} {vs} {zs} l k j h e f g =
@@ -129,7 +129,7 @@ instrument-put xs m t {us} {vs} {zs} l k j h e f g =
 
 -- ---- messages
 
-pub system-event-put : (xs : List ℕ) (m : SystemEvent) {us zs : List ℕ} → 12 ≤ length xs
+pub system-event-put : (xs : List ℕ) (m : SystemEvent) {us zs : List ℕ} → systemEventLetter .size ≤ length xs
     → us ≡ overlay xs 0 (83 ∷ bytesFor stampRows (stampFields (m .stamp))) → zs ≡ overlay us 11 (bytesBe 1 (m .code))
     → zs ≡ overlay xs 0 (83 ∷ bytesFor systemEventRows (systemEventFields m))
 unfolding digits bytesFor
@@ -137,26 +137,26 @@ system-event-put xs m {us} {zs} h e f =
     run-joined xs 0 (piece 11 (83 ∷ bytesFor stampRows (stampFields (m .stamp)))) (piece 1 (bytesBe 1 (m .code)) ∷ []) (refl, (refl, tt)) h e (zs, f, refl)
 
 instrument-length : (m : Instrument) (t : Texts) → length (t .symbol) ≡ 8 → length (t .underlying) ≡ 13 → length (t .reserved) ≡ 16
-    → length (bytesFor instrumentRows (instrumentFields m t)) ≡ 52
+    → length (bytesFor instrumentRows (instrumentFields m t)) ≡ entrySize
 unfolding bytesFor
 instrument-length m t l k j = simp (length-append, digits-length, l, k, j)
 
 pub directory-put : (xs : List ℕ) (m : Directory) (t : Texts) {us vs : List ℕ} → length (t .symbol) ≡ 8 → length (t .underlying) ≡ 13 → length (t .reserved) ≡ 16
-    → 63 ≤ length xs → us ≡ overlay xs 0 (109 ∷ bytesFor stampRows (stampFields (m .stamp)))
-    → vs ≡ overlay (part us 11 52) 0 (bytesFor instrumentRows (instrumentFields (m .instrument) t))
-    → putMid 11 52 us vs ≡ overlay xs 0 (109 ∷ bytesFor directoryRows (directoryFields m t))
+    → directoryLetter .size ≤ length xs → us ≡ overlay xs 0 (109 ∷ bytesFor stampRows (stampFields (m .stamp)))
+    → vs ≡ overlay (part us 11 entrySize) 0 (bytesFor instrumentRows (instrumentFields (m .instrument) t))
+    → putMid 11 entrySize us vs ≡ overlay xs 0 (109 ∷ bytesFor directoryRows (directoryFields m t))
 unfolding digits bytesFor
 directory-put xs m t {us} {vs} l k j h e f =
     let s : List ℕ = 109 ∷ bytesFor stampRows (stampFields (m .stamp)) in
     let i : List ℕ = bytesFor instrumentRows (instrumentFields (m .instrument) t) in
-    let n : length i ≡ 52 = instrument-length (m .instrument) t l k j in
+    let n : length i ≡ entrySize = instrument-length (m .instrument) t l k j in
     let u : length us ≡ length xs = ap length e ∙ overlay-length xs 0 s (omega arith) in
-    let v : vs ≡ i = f ∙ overlay-whole (part us 11 52) i (n ∙ sym (part-length us 11 52 (omega arith))) in
-    run-joined xs 0 (piece 11 s) (piece 52 i ∷ []) (refl, (n, tt)) h e
-    (putMid 11 52 us vs, part-back 11 63 us vs (omega arith) (omega arith) (ap length v ∙ n) ∙ ap (overlay us 11) v, refl)
+    let v : vs ≡ i = f ∙ overlay-whole (part us 11 entrySize) i (n ∙ sym (part-length us 11 entrySize (omega arith))) in
+    run-joined xs 0 (piece 11 s) (piece entrySize i ∷ []) (refl, (n, tt)) h e
+    (putMid 11 entrySize us vs, part-back 11 (directoryLetter .size) us vs (omega arith) (omega arith) (ap length v ∙ n) ∙ ap (overlay us 11) v, refl)
     ∙ ap (overlay xs 0) (ap (λ (r : List ℕ). s ++ r) (append-nil i))
 
-pub short-quote-put : (xs : List ℕ) (m : ShortQuote) {us vs zs : List ℕ} → 36 ≤ length xs
+pub short-quote-put : (xs : List ℕ) (m : ShortQuote) {us vs zs : List ℕ} → shortQuoteLetter .size ≤ length xs
     → us ≡ overlay xs 0 (113 ∷ bytesFor quoteRows (quoteFields (m .stamp) (m .id) (m .condition)))
     → vs ≡ overlay us 16 (bytesFor (shortNumbersRows 16) (shortNumbersFields (m .bid)))
     → zs ≡ overlay vs 26 (bytesFor (shortNumbersRows 26) (shortNumbersFields (m .ask)))
@@ -167,7 +167,7 @@ short-quote-put xs m {us} {vs} {zs} h e f g =
     (piece 10 (bytesFor (shortNumbersRows 16) (shortNumbersFields (m .bid))) ∷ piece 10 (bytesFor (shortNumbersRows 26) (shortNumbersFields (m .ask))) ∷ [])
     (refl, (refl, (refl, tt))) h e (vs, f, (zs, g, refl))
 
-pub long-quote-put : (xs : List ℕ) (m : LongQuote) {us vs zs : List ℕ} → 56 ≤ length xs
+pub long-quote-put : (xs : List ℕ) (m : LongQuote) {us vs zs : List ℕ} → longQuoteLetter .size ≤ length xs
     → us ≡ overlay xs 0 (81 ∷ bytesFor quoteRows (quoteFields (m .stamp) (m .id) (m .condition)))
     → vs ≡ overlay us 16 (bytesFor (longNumbersRows 16) (longNumbersFields (m .bid)))
     → zs ≡ overlay vs 36 (bytesFor (longNumbersRows 36) (longNumbersFields (m .ask)))
@@ -178,7 +178,7 @@ long-quote-put xs m {us} {vs} {zs} h e f g =
     (piece 20 (bytesFor (longNumbersRows 16) (longNumbersFields (m .bid))) ∷ piece 20 (bytesFor (longNumbersRows 36) (longNumbersFields (m .ask))) ∷ [])
     (refl, (refl, (refl, tt))) h e (vs, f, (zs, g, refl))
 
-pub short-side-put : (xs : List ℕ) (m : ShortSide) (c : ℕ) {us zs : List ℕ} → 26 ≤ length xs → c ≡ shortSideCode (m .side)
+pub short-side-put : (xs : List ℕ) (m : ShortSide) (c : ℕ) {us zs : List ℕ} → shortSideLetter (m .side) .size ≤ length xs → c ≡ shortSideCode (m .side)
     → us ≡ overlay xs 0 (c ∷ bytesFor quoteRows (quoteFields (m .stamp) (m .id) (m .condition)))
     → zs ≡ overlay us 16 (bytesFor (shortNumbersRows 16) (shortNumbersFields (m .numbers)))
     → zs ≡ overlay xs 0 (shortSideCode (m .side) ∷ bytesFor shortSideRows (shortSideFields m))
@@ -188,7 +188,7 @@ short-side-put xs m c {us} {zs} h i e f =
     (piece 10 (bytesFor (shortNumbersRows 16) (shortNumbersFields (m .numbers))) ∷ []) (refl, (refl, tt)) h e (zs, f, refl)
     ∙ ap (λ (k : ℕ). overlay xs 0 (k ∷ bytesFor shortSideRows (shortSideFields m))) i
 
-pub long-side-put : (xs : List ℕ) (m : LongSide) (c : ℕ) {us zs : List ℕ} → 36 ≤ length xs → c ≡ longSideCode (m .side)
+pub long-side-put : (xs : List ℕ) (m : LongSide) (c : ℕ) {us zs : List ℕ} → longSideLetter (m .side) .size ≤ length xs → c ≡ longSideCode (m .side)
     → us ≡ overlay xs 0 (c ∷ bytesFor quoteRows (quoteFields (m .stamp) (m .id) (m .condition)))
     → zs ≡ overlay us 16 (bytesFor (longNumbersRows 16) (longNumbersFields (m .numbers)))
     → zs ≡ overlay xs 0 (longSideCode (m .side) ∷ bytesFor longSideRows (longSideFields m))
@@ -202,7 +202,7 @@ long-side-put xs m c {us} {zs} h i e f =
 pub twenty : (n : ℕ) → n < 2 ^ 64 → digitCount n ≤ 20
 twenty n h = count-most n 19 (omega arith)
 
-pub end-of-replay-put : (xs : List ℕ) (m : EndOfReplay) {us zs : List ℕ} → m .number < 2 ^ 64 → 21 ≤ length xs
+pub end-of-replay-put : (xs : List ℕ) (m : EndOfReplay) {us zs : List ℕ} → m .number < 2 ^ 64 → endOfReplayLetter .size ≤ length xs
     → us ≡ overlay xs 0 (bytesBe 1 77) → zs ≡ overlay us 1 (charsThenSpaces 20 (m .number))
     → zs ≡ overlay xs 0 (77 ∷ bytesFor endOfReplayRows (endOfReplayFields m))
 unfolding digits bytesFor

@@ -16,7 +16,7 @@ use Rattle.field.specs.declared.decimal.Number.{Number}
 use Rattle.field.specs.declared.decimal.Number.the-variants as number
 use Rattle.field.proofs.Parts.{part-length, part-whole, overlay-whole}
 use Rattle.message.specs.Layout.{Value, Row, values, keepsAll}
-use Rattle.message.specs.Letters.{Letter, listed, conditions, letters, letterIn, letterFor, fieldsOf, noTexts, stampRows, stampOf, instrumentRows, entryRows, instrumentOf, instrumentFields, textsOf, directoryRows, directoryOf, directoryFields, directoryLetter, endOfReplayRows, endOfReplayOf}
+use Rattle.message.specs.Letters.{Letter, listed, conditions, letters, letterIn, letterFor, fieldsOf, noTexts, stampRows, stampOf, instrumentRows, entryRows, entrySize, instrumentOf, instrumentFields, textsOf, directoryRows, directoryOf, directoryFields, directoryLetter, endOfReplayRows, endOfReplayOf}
 use Rattle.message.specs.Message.{Sized, accepted, refused, readFields, readAs, readOf, bytesOf, keeps, outcome, writeOf}
 use Rattle.message.specs.declared.Message.{Message}
 use Rattle.message.specs.declared.Message.the-variants as message
@@ -127,18 +127,18 @@ pub no-number-taken : (bs : List ℕ) {x : Number} → x ≡ numberBeforeSpaces 
 unfolding values
 no-number-taken bs p q = rw (← p, q)
 
--- the 52 bytes of an instrument, in a directory and by themselves
-entry-values : (bs : List ℕ) → values entryRows (part bs 11 52) ≡ values instrumentRows bs
+-- the bytes of an instrument, in a directory and by themselves
+entry-values : (bs : List ℕ) → values entryRows (part bs 11 entrySize) ≡ values instrumentRows bs
 unfolding rowsIn
-entry-values bs = values-in-part 11 52 instrumentRows bs refl
+entry-values bs = values-in-part 11 entrySize instrumentRows bs refl
 
-pub directory-taken : (bs : List ℕ) {s : Stamp} {i : Instrument} → s ≡ stampOf (values stampRows bs) → i ≡ instrumentOf (values entryRows (part bs 11 52))
+pub directory-taken : (bs : List ℕ) {s : Stamp} {i : Instrument} → s ≡ stampOf (values stampRows bs) → i ≡ instrumentOf (values entryRows (part bs 11 entrySize))
     → _≡_ {A = Directory} (record { stamp = s; instrument = i }) (directoryOf (values directoryRows bs))
 unfolding values
 directory-taken bs p q i = record { stamp = p i; instrument = (q ∙ ap instrumentOf (entry-values bs)) i }
 
 -- a directory, with its texts
-module _ (bs : List ℕ) {m : Directory} {t : Texts} {ok : Bool} (is : m ≡ directoryOf (values directoryRows bs)) (texts : t ≡ textsOf (values entryRows (part bs 11 52)))
+module _ (bs : List ℕ) {m : Directory} {t : Texts} {ok : Bool} (is : m ≡ directoryOf (values directoryRows bs)) (texts : t ≡ textsOf (values entryRows (part bs 11 entrySize)))
     (p : ok ≡ keepsAll directoryRows (directoryFields m t)) where
   own-texts : t ≡ textsOf (values instrumentRows bs)
   own-texts = texts ∙ ap textsOf (entry-values bs)
@@ -155,7 +155,7 @@ module _ (bs : List ℕ) {m : Directory} {t : Texts} {ok : Bool} (is : m ≡ dir
   unfolding readFields
   directory-no n q = rw (← kept-directory, n) q
 
-pub texts-copied : (bs : List ℕ) {a b c : List ℕ} → 52 ≤ length bs → a ≡ overlay (replicate 8 0) 0 (part bs 4 8) → b ≡ overlay (replicate 13 0) 0 (part bs 20 13)
+pub texts-copied : (bs : List ℕ) {a b c : List ℕ} → entrySize ≤ length bs → a ≡ overlay (replicate 8 0) 0 (part bs 4 8) → b ≡ overlay (replicate 13 0) 0 (part bs 20 13)
     → c ≡ overlay (replicate 16 0) 0 (part bs 36 16) → _≡_ {A = Texts} (record { symbol = a; underlying = b; reserved = c }) (textsOf (values entryRows bs))
 unfolding values
 texts-copied bs h p q r i =

@@ -94,9 +94,12 @@ instrumentRows =
 abbrev pub directoryRows : List Row
 directoryRows = stampRows ++ instrumentRows
 
--- the same 52 bytes by themselves, from byte 0
+-- the same bytes by themselves, from byte 0, and how many they are
 abbrev pub entryRows : List Row
 entryRows = from 11 instrumentRows
+
+abbrev pub entrySize : ℕ
+entrySize = 52
 
 -- H: instrument id, state
 abbrev pub tradingActionRows : List Row

@@ -1,4 +1,4 @@
-// The 52 bytes of an instrument, which a directory and a table's row share: taken, judged and put.
+// The bytes of an instrument, which a directory and a table's row share: taken, judged and put.
 use crate::Instrument;
 use crate::Texts;
 use crate::codes;
@@ -11,11 +11,10 @@ ghost use lib.ListN.{length};
 ghost use Rattle.field.specs.Bytes.{overlay, bytesBe};
 ghost use Rattle.field.specs.Text.{within, isText};
 ghost use Rattle.message.specs.Layout.{values, keepsAll, bytesFor};
-ghost use Rattle.message.specs.Letters.{entryRows, instrumentOf, textsOf, instrumentRows, instrumentFields};
+ghost use Rattle.message.specs.Letters.{entryRows, entrySize, instrumentOf, textsOf, instrumentRows, instrumentFields};
 
-// The fields of the 52 bytes that a directory and a table's row share.
 pub fn instrument(entry: &[u8]) -> Instrument
-    requires { ⌜ 52 ≤ length (now entry) ⌝ }
+    requires { ⌜ entrySize ≤ length (now entry) ⌝ }
     ensures { λ r. ⌜ r ≡ instrumentOf (values entryRows (now (entry .entry))) ⌝ }
 {
     Instrument {
@@ -32,7 +31,7 @@ pub fn instrument(entry: &[u8]) -> Instrument
 }
 
 pub fn texts(entry: &[u8]) -> Texts
-    requires { ⌜ 52 ≤ length (now entry) ⌝ }
+    requires { ⌜ entrySize ≤ length (now entry) ⌝ }
     ensures { λ r. ⌜ r ≡ textsOf (values entryRows (now (entry .entry))) ⌝ }
 {
     let mut symbol = [0; 8];
@@ -100,7 +99,7 @@ fn underlying(out: &mut [u8], t: Texts)
 }
 
 fn reserved(out: &mut [u8], t: Texts)
-    requires { ⌜ 52 ≤ length (now out) ⌝ }
+    requires { ⌜ entrySize ≤ length (now out) ⌝ }
     ensures { λ r. ⌜ now (out .exit) ≡ overlay (now (out .entry)) 36 (t .reserved) ⌝ }
 {
     let reserved = t.reserved;
@@ -127,7 +126,7 @@ fn terms(out: &mut [u8], m: Instrument, t: Texts)
 
 // The fields that may change: underlying, closing, tradable, variation and reserved.
 fn market(out: &mut [u8], m: Instrument, t: Texts)
-    requires { ⌜ 52 ≤ length (now out) ⌝ }
+    requires { ⌜ entrySize ≤ length (now out) ⌝ }
     ensures { λ r. ⌜
         now (out .exit)
         ≡ overlay (now (out .entry)) 20
@@ -141,9 +140,8 @@ fn market(out: &mut [u8], m: Instrument, t: Texts)
     reserved(out, t);
 }
 
-// The 52 bytes that a directory and a table's row share.
 pub fn put(out: &mut [u8], m: Instrument, t: Texts)
-    requires { ⌜ 52 ≤ length (now out) ⌝ }
+    requires { ⌜ entrySize ≤ length (now out) ⌝ }
     ensures { λ r. ⌜ now (out .exit) ≡ overlay (now (out .entry)) 0 (bytesFor instrumentRows (instrumentFields m t)) ⌝ }
 {
     field::write4(out, 0, m.id);

@@ -6,6 +6,7 @@ use crate::Reading;
 use crate::Refusal;
 use crate::Side;
 use crate::entry;
+use crate::lengths;
 use crate::numbers;
 use crate::rules;
 use crate::take;
@@ -31,7 +32,7 @@ fn whole(m: Message) -> Reading
 }
 
 fn system_event(bytes: &[u8]) -> Reading
-    requires { ⌜ 12 ≤ length (now bytes) ⌝ }
+    requires { ⌜ systemEventLetter .size ≤ length (now bytes) ⌝ }
     ensures { λ r. ⌜ r ≡ readFields systemEventLetter (values systemEventRows (now (bytes .entry))) ⌝ }
 {
     let m = take::system_event(bytes);
@@ -42,11 +43,11 @@ fn system_event(bytes: &[u8]) -> Reading
 }
 
 fn directory(bytes: &[u8]) -> Reading
-    requires { ⌜ 63 ≤ length (now bytes) ⌝ }
+    requires { ⌜ directoryLetter .size ≤ length (now bytes) ⌝ }
     ensures { λ r. ⌜ r ≡ readFields directoryLetter (values directoryRows (now (bytes .entry))) ⌝ }
 {
     let m = take::directory(bytes);
-    let texts = entry::texts(&bytes[11..63]);
+    let texts = entry::texts(&bytes[11..lengths::DIRECTORY]);
     if rules::keep_directory(m, texts) {
         return Reading {
             answer: Answer::Is(Message::Directory(m)),
@@ -57,7 +58,7 @@ fn directory(bytes: &[u8]) -> Reading
 }
 
 fn trading_action(bytes: &[u8]) -> Reading
-    requires { ⌜ 16 ≤ length (now bytes) ⌝ }
+    requires { ⌜ tradingActionLetter .size ≤ length (now bytes) ⌝ }
     ensures { λ r. ⌜ r ≡ readFields tradingActionLetter (values tradingActionRows (now (bytes .entry))) ⌝ }
 {
     let m = take::trading_action(bytes);
@@ -76,7 +77,7 @@ fn keep_head(bytes: &[u8]) -> bool
 }
 
 fn keep_long_quote(bytes: &[u8]) -> bool
-    requires { ⌜ 56 ≤ length (now bytes) ⌝ }
+    requires { ⌜ longQuoteLetter .size ≤ length (now bytes) ⌝ }
     ensures { λ r. ⌜ r ≡ keepsAll longQuoteRows (values longQuoteRows (now (bytes .entry))) ⌝ }
 {
     keep_head(bytes)
@@ -87,14 +88,14 @@ fn keep_long_quote(bytes: &[u8]) -> bool
 }
 
 fn keep_long_side(bytes: &[u8]) -> bool
-    requires { ⌜ 36 ≤ length (now bytes) ⌝ }
+    requires { ⌜ longSideLetter Side.Bid .size ≤ length (now bytes) ⌝ }
     ensures { λ r. ⌜ r ≡ keepsAll longSideRows (values longSideRows (now (bytes .entry))) ⌝ }
 {
     keep_head(bytes) & limits::price_in_range(numbers::long_price(bytes, 16))
 }
 
 fn short_quote(bytes: &[u8]) -> Reading
-    requires { ⌜ 36 ≤ length (now bytes) ⌝ }
+    requires { ⌜ shortQuoteLetter .size ≤ length (now bytes) ⌝ }
     ensures { λ r. ⌜ r ≡ readFields shortQuoteLetter (values shortQuoteRows (now (bytes .entry))) ⌝ }
 {
     if keep_head(bytes) {
@@ -104,7 +105,7 @@ fn short_quote(bytes: &[u8]) -> Reading
 }
 
 fn long_quote(bytes: &[u8]) -> Reading
-    requires { ⌜ 56 ≤ length (now bytes) ⌝ }
+    requires { ⌜ longQuoteLetter .size ≤ length (now bytes) ⌝ }
     ensures { λ r. ⌜ r ≡ readFields longQuoteLetter (values longQuoteRows (now (bytes .entry))) ⌝ }
 {
     if keep_long_quote(bytes) {
@@ -114,7 +115,7 @@ fn long_quote(bytes: &[u8]) -> Reading
 }
 
 fn short_side(bytes: &[u8], side: Side) -> Reading
-    requires { ⌜ 26 ≤ length (now bytes) ⌝ }
+    requires { ⌜ shortSideLetter side .size ≤ length (now bytes) ⌝ }
     ensures { λ r. ⌜ r ≡ readFields (shortSideLetter side) (values shortSideRows (now (bytes .entry))) ⌝ }
 {
     if keep_head(bytes) {
@@ -124,7 +125,7 @@ fn short_side(bytes: &[u8], side: Side) -> Reading
 }
 
 fn long_side(bytes: &[u8], side: Side) -> Reading
-    requires { ⌜ 36 ≤ length (now bytes) ⌝ }
+    requires { ⌜ longSideLetter side .size ≤ length (now bytes) ⌝ }
     ensures { λ r. ⌜ r ≡ readFields (longSideLetter side) (values longSideRows (now (bytes .entry))) ⌝ }
 {
     if keep_long_side(bytes) {
@@ -134,7 +135,7 @@ fn long_side(bytes: &[u8], side: Side) -> Reading
 }
 
 fn end_of_replay(bytes: &[u8]) -> Reading
-    requires { ⌜ 21 ≤ length (now bytes) ⌝ }
+    requires { ⌜ endOfReplayLetter .size ≤ length (now bytes) ⌝ }
     ensures { λ r. ⌜ r ≡ readFields endOfReplayLetter (values endOfReplayRows (now (bytes .entry))) ⌝ }
 {
     let m = take::end_of_replay(bytes);

@@ -4,12 +4,19 @@ ghost use mathlib.Core.Path.{_≡_};
 ghost use Rattle.message.specs.Letters.{letters, letterIn, letterFor, lengthIn};
 
 pub const SYSTEM_EVENT: usize = 12;
+
 pub const DIRECTORY: usize = 63;
+
 pub const TRADING_ACTION: usize = 16;
+
 pub const SHORT_QUOTE: usize = 36;
+
 pub const LONG_QUOTE: usize = 56;
+
 pub const SHORT_SIDE: usize = 26;
+
 pub const LONG_SIDE: usize = 36;
+
 pub const END_OF_REPLAY: usize = 21;
 
 // Letters and lengths, by turns.

@@ -12,6 +12,7 @@ use crate::SystemEvent;
 use crate::Texts;
 use crate::TradingAction;
 use crate::entry;
+use crate::lengths;
 use crate::numbers;
 use field::decimal;
 ghost use mathlib.Core.Path.{_≡_};
@@ -20,7 +21,7 @@ ghost use Prim.Native.Nat.{_≤_};
 ghost use lib.ListN.{length};
 ghost use Rattle.field.specs.Bytes.{overlay};
 ghost use Rattle.message.specs.Layout.{bytesFor};
-ghost use Rattle.message.specs.Letters.{letterFor, stampRows, stampFields, systemEventRows, systemEventFields, directoryRows, directoryFields, quoteRows, quoteFields, tradingActionRows, tradingActionFields, shortQuoteRows, shortQuoteFields, longQuoteRows, longQuoteFields, shortSideCode, shortSideRows, shortSideFields, longSideCode, longSideRows, longSideFields, endOfReplayRows, endOfReplayFields};
+ghost use Rattle.message.specs.Letters.{letterFor, stampRows, stampFields, systemEventRows, systemEventFields, directoryRows, directoryFields, quoteRows, quoteFields, tradingActionRows, tradingActionFields, shortQuoteRows, shortQuoteFields, longQuoteRows, longQuoteFields, shortSideCode, shortSideRows, shortSideFields, longSideCode, longSideRows, longSideFields, endOfReplayRows, endOfReplayFields, directoryLetter, endOfReplayLetter, longQuoteLetter, longSideLetter, shortQuoteLetter, shortSideLetter, systemEventLetter, tradingActionLetter};
 ghost use Rattle.message.specs.Message.{bytesOf};
 
 // The letter and the stamp: eleven bytes.
@@ -44,7 +45,7 @@ fn head(out: &mut [u8], letter: u8, s: Stamp, id: u32, mark: u8)
 }
 
 fn system_event(out: &mut [u8], m: SystemEvent)
-    requires { ⌜ 12 ≤ length (now out) ⌝ }
+    requires { ⌜ systemEventLetter .size ≤ length (now out) ⌝ }
     ensures { λ r. ⌜ now (out .exit) ≡ overlay (now (out .entry)) 0 (83 ∷ bytesFor systemEventRows (systemEventFields m)) ⌝ }
 {
     let s = m.stamp;
@@ -53,17 +54,17 @@ fn system_event(out: &mut [u8], m: SystemEvent)
 }
 
 fn directory(out: &mut [u8], m: Directory, t: Texts)
-    requires { ⌜ 63 ≤ length (now out) ⌝ }
+    requires { ⌜ directoryLetter .size ≤ length (now out) ⌝ }
     ensures { λ r. ⌜ now (out .exit) ≡ overlay (now (out .entry)) 0 (109 ∷ bytesFor directoryRows (directoryFields m t)) ⌝ }
 {
     let s = m.stamp;
     let i = m.instrument;
     stamp(out, b'm', s);
-    entry::put(&mut out[11..63], i, t);
+    entry::put(&mut out[11..lengths::DIRECTORY], i, t);
 }
 
 fn trading_action(out: &mut [u8], m: TradingAction)
-    requires { ⌜ 16 ≤ length (now out) ⌝ }
+    requires { ⌜ tradingActionLetter .size ≤ length (now out) ⌝ }
     ensures { λ r. ⌜ now (out .exit) ≡ overlay (now (out .entry)) 0 (72 ∷ bytesFor tradingActionRows (tradingActionFields m)) ⌝ }
 {
     let s = m.stamp;
@@ -71,7 +72,7 @@ fn trading_action(out: &mut [u8], m: TradingAction)
 }
 
 fn short_quote(out: &mut [u8], m: ShortQuote)
-    requires { ⌜ 36 ≤ length (now out) ⌝ }
+    requires { ⌜ shortQuoteLetter .size ≤ length (now out) ⌝ }
     ensures { λ r. ⌜ now (out .exit) ≡ overlay (now (out .entry)) 0 (113 ∷ bytesFor shortQuoteRows (shortQuoteFields m)) ⌝ }
 {
     let s = m.stamp;
@@ -83,7 +84,7 @@ fn short_quote(out: &mut [u8], m: ShortQuote)
 }
 
 fn long_quote(out: &mut [u8], m: LongQuote)
-    requires { ⌜ 56 ≤ length (now out) ⌝ }
+    requires { ⌜ longQuoteLetter .size ≤ length (now out) ⌝ }
     ensures { λ r. ⌜ now (out .exit) ≡ overlay (now (out .entry)) 0 (81 ∷ bytesFor longQuoteRows (longQuoteFields m)) ⌝ }
 {
     let s = m.stamp;
@@ -104,7 +105,7 @@ fn short_side_code(side: Side) -> u8
 }
 
 fn short_side(out: &mut [u8], m: ShortSide)
-    requires { ⌜ 26 ≤ length (now out) ⌝ }
+    requires { ⌜ shortSideLetter (m .side) .size ≤ length (now out) ⌝ }
     ensures { λ r. ⌜ now (out .exit) ≡ overlay (now (out .entry)) 0 (shortSideCode (m .side) ∷ bytesFor shortSideRows (shortSideFields m)) ⌝ }
 {
     let s = m.stamp;
@@ -125,7 +126,7 @@ fn long_side_code(side: Side) -> u8
 }
 
 fn long_side(out: &mut [u8], m: LongSide)
-    requires { ⌜ 36 ≤ length (now out) ⌝ }
+    requires { ⌜ longSideLetter (m .side) .size ≤ length (now out) ⌝ }
     ensures { λ r. ⌜ now (out .exit) ≡ overlay (now (out .entry)) 0 (longSideCode (m .side) ∷ bytesFor longSideRows (longSideFields m)) ⌝ }
 {
     let s = m.stamp;
@@ -137,7 +138,7 @@ fn long_side(out: &mut [u8], m: LongSide)
 }
 
 fn end_of_replay(out: &mut [u8], m: EndOfReplay)
-    requires { ⌜ 21 ≤ length (now out) ⌝ }
+    requires { ⌜ endOfReplayLetter .size ≤ length (now out) ⌝ }
     ensures { λ r. ⌜ now (out .exit) ≡ overlay (now (out .entry)) 0 (77 ∷ bytesFor endOfReplayRows (endOfReplayFields m)) ⌝ }
 {
     field::write1(out, 0, b'M');

@@ -10,6 +10,7 @@ use crate::Stamp;
 use crate::SystemEvent;
 use crate::TradingAction;
 use crate::entry;
+use crate::lengths;
 use crate::numbers;
 use field::decimal;
 ghost use mathlib.Core.Path.{_≡_};
@@ -17,7 +18,7 @@ ghost use Prim.Native.Nat.{_+_, _≤_};
 ghost use lib.ListN.{length};
 ghost use Rattle.field.specs.Bytes.{part, be};
 ghost use Rattle.message.specs.Layout.{values};
-ghost use Rattle.message.specs.Letters.{stampRows, stampOf, systemEventRows, systemEventOf, directoryRows, directoryOf, tradingActionRows, tradingActionOf, shortQuoteRows, shortQuoteOf, longQuoteRows, longQuoteOf, shortSideRows, shortSideOf, longSideRows, longSideOf, endOfReplayRows, endOfReplayOf};
+ghost use Rattle.message.specs.Letters.{stampRows, stampOf, systemEventRows, systemEventOf, directoryRows, directoryOf, tradingActionRows, tradingActionOf, shortQuoteRows, shortQuoteOf, longQuoteRows, longQuoteOf, shortSideRows, shortSideOf, longSideRows, longSideOf, endOfReplayRows, endOfReplayOf, directoryLetter, endOfReplayLetter, longQuoteLetter, longSideLetter, shortQuoteLetter, shortSideLetter, systemEventLetter, tradingActionLetter};
 
 pub fn time(bytes: &[u8]) -> u64
     requires { ⌜ 11 ≤ length (now bytes) ⌝ }
@@ -44,7 +45,7 @@ fn stamp(bytes: &[u8]) -> Stamp
 }
 
 pub fn system_event(bytes: &[u8]) -> SystemEvent
-    requires { ⌜ 12 ≤ length (now bytes) ⌝ }
+    requires { ⌜ systemEventLetter .size ≤ length (now bytes) ⌝ }
     ensures { λ r. ⌜ r ≡ systemEventOf (values systemEventRows (now (bytes .entry))) ⌝ }
 {
     SystemEvent {
@@ -54,17 +55,17 @@ pub fn system_event(bytes: &[u8]) -> SystemEvent
 }
 
 pub fn directory(bytes: &[u8]) -> Directory
-    requires { ⌜ 63 ≤ length (now bytes) ⌝ }
+    requires { ⌜ directoryLetter .size ≤ length (now bytes) ⌝ }
     ensures { λ r. ⌜ r ≡ directoryOf (values directoryRows (now (bytes .entry))) ⌝ }
 {
     Directory {
         stamp: stamp(bytes),
-        instrument: entry::instrument(&bytes[11..63]),
+        instrument: entry::instrument(&bytes[11..lengths::DIRECTORY]),
     }
 }
 
 pub fn trading_action(bytes: &[u8]) -> TradingAction
-    requires { ⌜ 16 ≤ length (now bytes) ⌝ }
+    requires { ⌜ tradingActionLetter .size ≤ length (now bytes) ⌝ }
     ensures { λ r. ⌜ r ≡ tradingActionOf (values tradingActionRows (now (bytes .entry))) ⌝ }
 {
     TradingAction {
@@ -75,7 +76,7 @@ pub fn trading_action(bytes: &[u8]) -> TradingAction
 }
 
 pub fn short_quote(bytes: &[u8]) -> ShortQuote
-    requires { ⌜ 36 ≤ length (now bytes) ⌝ }
+    requires { ⌜ shortQuoteLetter .size ≤ length (now bytes) ⌝ }
     ensures { λ r. ⌜ r ≡ shortQuoteOf (values shortQuoteRows (now (bytes .entry))) ⌝ }
 {
     ShortQuote {
@@ -88,7 +89,7 @@ pub fn short_quote(bytes: &[u8]) -> ShortQuote
 }
 
 pub fn long_quote(bytes: &[u8]) -> LongQuote
-    requires { ⌜ 56 ≤ length (now bytes) ⌝ }
+    requires { ⌜ longQuoteLetter .size ≤ length (now bytes) ⌝ }
     ensures { λ r. ⌜ r ≡ longQuoteOf (values longQuoteRows (now (bytes .entry))) ⌝ }
 {
     LongQuote {
@@ -101,7 +102,7 @@ pub fn long_quote(bytes: &[u8]) -> LongQuote
 }
 
 pub fn short_side(bytes: &[u8], side: Side) -> ShortSide
-    requires { ⌜ 26 ≤ length (now bytes) ⌝ }
+    requires { ⌜ shortSideLetter side .size ≤ length (now bytes) ⌝ }
     ensures { λ r. ⌜ r ≡ shortSideOf side (values shortSideRows (now (bytes .entry))) ⌝ }
 {
     ShortSide {
@@ -114,7 +115,7 @@ pub fn short_side(bytes: &[u8], side: Side) -> ShortSide
 }
 
 pub fn long_side(bytes: &[u8], side: Side) -> LongSide
-    requires { ⌜ 36 ≤ length (now bytes) ⌝ }
+    requires { ⌜ longSideLetter side .size ≤ length (now bytes) ⌝ }
     ensures { λ r. ⌜ r ≡ longSideOf side (values longSideRows (now (bytes .entry))) ⌝ }
 {
     LongSide {
@@ -128,7 +129,7 @@ pub fn long_side(bytes: &[u8], side: Side) -> LongSide
 
 // Characters that write no number give 0, which breaks the record's rule.
 pub fn end_of_replay(bytes: &[u8]) -> EndOfReplay
-    requires { ⌜ 21 ≤ length (now bytes) ⌝ }
+    requires { ⌜ endOfReplayLetter .size ≤ length (now bytes) ⌝ }
     ensures { λ r. ⌜ r ≡ endOfReplayOf (values endOfReplayRows (now (bytes .entry))) ⌝ }
 {
     match decimal::number_before_spaces(bytes, 1, 20) {
