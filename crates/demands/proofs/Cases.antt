@@ -10,8 +10,9 @@ use lib.ListN.{length}
 use Rattle.field.specs.Bytes.{part, overlay, value, digits}
 use Rattle.field.specs.Text.{every}
 use Rattle.message.specs.Layout.{values, keepsAll}
-use Rattle.message.specs.Letters.{listed, letters, letterIn}
-use Rattle.message.specs.Message.{readFields, readAs, readOf}
+use Rattle.message.specs.Feed.{letterAmong, fieldsRead, letterRead, bytesRead}
+use Rattle.message.specs.Letters.{listed, letters}
+use Rattle.message.specs.Message.{readOf}
 use Rattle.packet.specs.Frame.{framed, frame}
 use Rattle.packet.specs.Stream.{stepOf}
 use Rattle.packet.specs.Table.{packetTable, entryOf}
@@ -34,7 +35,7 @@ use Rattle.demands.specs.Cases.{calls, answered, Case, smallSet}
 
 -- THEOREM: C1 to C12, with table memory of the right length
 pub small-set : (t : List ℕ) → length t ≡ tableSize → map (λ (c : Case). answered t (c .question)) smallSet ≡ map (λ (c : Case). c .answer) smallSet
-unfolding calls stepAll withinLimits fits holdsUnfinished unfinished standing stepOf frame framed value soupBinTCP packetOf entryOf packetTable deliver readOf readAs readFields letters letterIn values keepsAll listed part digits saveAll headers.withinLimits saveOf headerKeeps isFresh every boardKeeps rowsKeep sizeFor weighted checkOf headBytes sealed blockOf pagesFor blocksFor versionFor headFor sessionBytes boardBytes firstBody bodyOf savedBlock blocks imageOf overlay
+unfolding calls stepAll withinLimits fits holdsUnfinished unfinished standing stepOf frame framed value soupBinTCP packetOf entryOf packetTable deliver readOf bytesRead letterRead fieldsRead letters letterAmong values keepsAll listed part digits saveAll headers.withinLimits saveOf headerKeeps isFresh every boardKeeps rowsKeep sizeFor weighted checkOf headBytes sealed blockOf pagesFor blocksFor versionFor headFor sessionBytes boardBytes firstBody bodyOf savedBlock blocks imageOf overlay
 small-set t long =
     let e : eqb (length t) tableSize ≡ true = eq-eqb (length t) tableSize long in
     rw e (rw e)

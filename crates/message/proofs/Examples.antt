@@ -5,8 +5,9 @@ use mathlib.Core.List.{List, [], _∷_}
 use Prim.Native.Nat.{ℕ}
 use Rattle.field.specs.Bytes.{part, value, digits}
 use Rattle.message.specs.Layout.{values, keepsAll, bytesFor}
-use Rattle.message.specs.Letters.{listed, letters, letterIn, noTexts}
-use Rattle.message.specs.Message.{accepted, refused, readFields, readAs, readOf, bytesOf}
+use Rattle.message.specs.Feed.{letterAmong, fieldsRead, letterRead, bytesRead}
+use Rattle.message.specs.Letters.{listed, letters, noTexts}
+use Rattle.message.specs.Message.{accepted, refused, readOf, bytesOf}
 use Rattle.message.specs.declared.Message.{Message}
 use Rattle.message.specs.declared.Message.the-variants as message
 use Rattle.message.specs.declared.Refusal.the-variants.{UnknownLetter, WrongLength, BadField}
@@ -19,7 +20,7 @@ startBytes : List ℕ
 startBytes = 83 ∷ 0 ∷ 7 ∷ 0 ∷ 0 ∷ 0x1F ∷ 0x1A ∷ 0xD6 ∷ 0x35 ∷ 0xBD ∷ 0x15 ∷ 79 ∷ []
 
 read-start : readOf startBytes ≡ accepted start noTexts
-unfolding start startBytes readOf readAs readFields letters letterIn values keepsAll listed part value
+unfolding start startBytes readOf bytesRead letterRead fieldsRead letters letterAmong values keepsAll listed part value
 read-start = refl
 
 write-start : bytesOf start noTexts ≡ startBytes
@@ -28,13 +29,13 @@ write-start = refl
 
 -- no event has the code A; the letter s is not listed; a byte is missing
 bad-code : readOf (83 ∷ 0 ∷ 7 ∷ 0 ∷ 0 ∷ 0 ∷ 0 ∷ 0 ∷ 0 ∷ 0 ∷ 0 ∷ 65 ∷ []) ≡ refused BadField
-unfolding readOf readAs readFields letters letterIn values keepsAll listed part value
+unfolding readOf bytesRead letterRead fieldsRead letters letterAmong values keepsAll listed part value
 bad-code = refl
 
 unknown-letter : readOf (115 ∷ []) ≡ refused UnknownLetter
-unfolding readOf readAs letters letterIn
+unfolding readOf bytesRead letterRead letters letterAmong
 unknown-letter = refl
 
 one-short : readOf (83 ∷ 0 ∷ 7 ∷ 0 ∷ 0 ∷ 0 ∷ 0 ∷ 0 ∷ 0 ∷ 0 ∷ 0 ∷ []) ≡ refused WrongLength
-unfolding readOf readAs letters letterIn
+unfolding readOf bytesRead letterRead letters letterAmong
 one-short = refl

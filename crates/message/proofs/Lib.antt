@@ -1,4 +1,5 @@
 pub mod Layouts
+pub mod Feeds
 pub mod Table
 pub mod Rounds
 pub mod Verdicts

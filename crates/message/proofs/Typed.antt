@@ -19,15 +19,16 @@ use Rattle.field.proofs.Numbers.{part-below}
 use Rattle.field.proofs.Parts.{part-length}
 use Rattle.field.proofs.Decimals.{of-before, chars-length}
 use Rattle.message.specs.Layout.{Rule, binary, decimal, text, bytes, Row, orZero, valueIn, holds, values, keepsAll, FitsIn, Fit}
-use Rattle.message.specs.Letters.{listed, Letter, letters, letterIn, letterFor}
-use Rattle.message.specs.Message.{accepted, readOf, keeps, Typed}
+use Rattle.message.specs.Feed.{Letter}
+use Rattle.message.specs.Letters.{Content, listed, letters, letterIn, letterFor, unlisted}
+use Rattle.message.specs.Message.{accepted, refused, told, readOf, keeps, Typed}
 use Rattle.message.specs.declared.Message.{Message}
 use Rattle.message.specs.declared.Texts.{Texts}
-use Rattle.message.specs.declared.Refusal.{Refusal}
 use Rattle.message.specs.declared.Answer.the-variants as answer
 use Rattle.message.specs.declared.Reading.{Reading}
-use Rattle.message.proofs.Table.{found, found-makes}
-use Rattle.message.proofs.Verdicts.{Verdict, empty, unknown, long, field, whole, read-verdict}
+use Rattle.message.proofs.Feeds.{found, Verdict, empty, unknown, long, field, whole}
+use Rattle.message.proofs.Table.{found-makes}
+use Rattle.message.proofs.Verdicts.{read-verdict, clash}
 
 -- ---- the values of bytes
 
@@ -86,16 +87,13 @@ listed-below (x ∷ xs) c b e = by (eqb x c) refl e (listed-below xs c (both-rig
 -- the rows of a letter lie in its bytes
 letter-inside : (c : ℕ) → inside (letterIn letters c .size) (letterIn letters c .rows) ≡ true
 unfolding letters inside
-letter-inside c = found (λ (l : Letter). inside (l .size) (l .rows) ≡ true) c letters refl (search tt depth 60)
-
-clash : {A : Type 0} {r : Refusal} {m : Message} → answer.Refused r ≡ answer.Is m → A
-clash {r = r} {m = m} e = let z : _≡_ {A = ℕ} 0 1 = cc in absurd (omega arith)
+letter-inside c = found unlisted (λ (l : Letter Content). inside (l .size) (l .rows) ≡ true) c letters refl (search tt depth 60)
 
 -- what is wanted of the reading of some bytes, if it is a message
 abbrev pub Read : List ℕ → Reading → Type 0
 Read bs x = (m : Message) → x .answer ≡ answer.Is m → Typed m (x .texts) × (keeps m (x .texts) ≡ true) × (length bs ≡ letterFor m .size)
 
-verdict-read : (bs : List ℕ) (x : Reading) → Bytes bs → Verdict bs x → Read bs x
+verdict-read : (bs : List ℕ) (x : Reading) → Bytes bs → Verdict told refused (letterIn letters) bs x → Read bs x
 unfolding keeps
 verdict-read bs x s empty m e = clash e
 verdict-read bs x s (unknown c rest i) m e = clash e
@@ -105,7 +103,7 @@ verdict-read bs x s (whole c rest i k) m e =
     let l = letterIn letters c in
     let vs = values (l .rows) (c ∷ rest) in
     let w = found-makes c (c ∷ rest) (i .isListed) in
-    let p : l .makes vs ≡ m = cc in
+    let p : l .makes vs .0 ≡ m = cc in
     let h : l .size ≤ length (c ∷ rest) = omega (arith, i .isLong) in
     rw (← p, w .own, w .fields) (values-fit (l .rows) (c ∷ rest) (l .size) s h (letter-inside c) k, k, i .isLong)
 

@@ -16,8 +16,9 @@ use Rattle.field.specs.declared.decimal.Number.{Number}
 use Rattle.field.specs.declared.decimal.Number.the-variants as number
 use Rattle.field.proofs.Parts.{part-length, part-whole, overlay-whole}
 use Rattle.message.specs.Layout.{Value, Row, values, keepsAll}
-use Rattle.message.specs.Letters.{Letter, listed, conditions, letters, letterIn, letterFor, fieldsOf, noTexts, stampRows, stampOf, instrumentRows, entryRows, entrySize, instrumentOf, instrumentFields, textsOf, directoryRows, directoryOf, directoryFields, directoryLetter, endOfReplayRows, endOfReplayOf}
-use Rattle.message.specs.Message.{Sized, accepted, refused, readFields, readAs, readOf, bytesOf, keeps, outcome, writeOf}
+use Rattle.message.specs.Feed.{Letter, Sized, fieldsRead, letterRead}
+use Rattle.message.specs.Letters.{Content, listed, conditions, letters, letterIn, letterFor, unlisted, fieldsOf, noTexts, stampRows, stampOf, instrumentRows, entryRows, entrySize, instrumentOf, instrumentFields, textsOf, directoryRows, directoryOf, directoryFields, directoryLetter, endOfReplayRows, endOfReplayOf}
+use Rattle.message.specs.Message.{accepted, refused, told, readFields, readOf, bytesOf, keeps, outcome, writeOf}
 use Rattle.message.specs.declared.Message.{Message}
 use Rattle.message.specs.declared.Message.the-variants as message
 use Rattle.message.specs.declared.Stamp.{Stamp}
@@ -32,41 +33,22 @@ use Rattle.message.specs.declared.Reading.{Reading}
 use Rattle.message.specs.declared.Written.the-variants.{Whole, Unwritten}
 use Rattle.message.specs.declared.WriteRefusal.the-variants.{BrokenRecord, ShortOutput}
 use Rattle.message.proofs.Layouts.{rowsIn, values-in-part}
+use Rattle.message.proofs.Feeds.{as-unknown, as-long, as-fields, read-none, read-some}
 
 -- ---- reading
 
 pub read-empty : (bs : List ℕ) {r : Reading} → length bs ≡ 0 → r ≡ refused UnknownLetter → r ≡ readOf bs
 unfolding readOf
-read-empty [] e p = p
-read-empty (c ∷ bs) e p = absurd (omega arith)
-
-read-some : (bs : List ℕ) → (length bs ≡ 0 → ⊥) → readAs (letterIn letters (getD bs 0 0)) bs ≡ readOf bs
-unfolding readOf
-read-some [] h = absurd (h refl)
-read-some (c ∷ bs) h = refl
-
--- one letter's three tests
-module _ (l : Letter) (bs : List ℕ) where
-  as-unknown : l .size ≡ 0 → readAs l bs ≡ refused UnknownLetter
-  unfolding readAs
-  as-unknown e = rw (eq-eqb (l .size) 0 e)
-
-  as-long : (l .size ≡ 0 → ⊥) → (length bs ≡ l .size → ⊥) → readAs l bs ≡ refused WrongLength
-  unfolding readAs
-  as-long h e = rw (ne-eqb (l .size) 0 h, ne-eqb (length bs) (l .size) e)
-
-  as-fields : Sized l bs → readAs l bs ≡ readFields l (values (l .rows) bs)
-  unfolding readAs
-  as-fields s = rw (ne-eqb (l .size) 0 (s .isListed), eq-eqb (length bs) (l .size) (s .isLong))
+read-empty bs e p = p ∙ sym (read-none told refused unlisted letters bs e)
 
 -- a record with no texts, of any kind: its letter makes the message that `says` makes of it
-module _ {A : Type 0} (l : Letter) (vs : List Value) (says : A → Message) (a : A) (made : l .makes vs ≡ says a) (bare : l .texts vs ≡ noTexts) where
+module _ {A : Type 0} (l : Letter Content) (vs : List Value) (says : A → Message) (a : A) (made : l .makes vs ≡ (says a, noTexts)) where
   pub judged-yes : {m : A} {r : Reading} {ok : Bool} → ok ≡ keepsAll (l .rows) vs → ok ≡ true → m ≡ a → r ≡ accepted (says m) noTexts → r ≡ readFields l vs
-  unfolding readFields
-  judged-yes p y is q = q ∙ rw (← p, y, made, bare, is)
+  unfolding readFields fieldsRead
+  judged-yes p y is q = q ∙ rw (← p, y, made, is)
 
-pub judged-no : (l : Letter) (vs : List Value) {ok : Bool} {r : Reading} → ok ≡ keepsAll (l .rows) vs → ok ≡ false → r ≡ refused BadField → r ≡ readFields l vs
-unfolding readFields
+pub judged-no : (l : Letter Content) (vs : List Value) {ok : Bool} {r : Reading} → ok ≡ keepsAll (l .rows) vs → ok ≡ false → r ≡ refused BadField → r ≡ readFields l vs
+unfolding readFields fieldsRead
 judged-no l vs p n q = rw (← p, n) q
 
 -- a test of the record is a test of the fields that it was made of
@@ -75,18 +57,23 @@ pub by-record : {A : Type 0} (rows : List Row) (vs : List Value) (fields : A →
 by-record rows vs fields a own is p = p ∙ ap (λ x. keepsAll rows (fields x)) is ∙ ap (keepsAll rows) own
 
 module _ (bs : List ℕ) (size : ℕ) (some : length bs ≡ 0 → ⊥) (is : size ≡ letterIn letters (getD bs 0 0) .size) where
+  by-letter : readOf bs ≡ letterRead told refused (letterIn letters (getD bs 0 0)) bs
+  unfolding readOf
+  by-letter = read-some told refused unlisted letters bs some
+
   pub read-unknown : {r : Reading} → size ≡ 0 → r ≡ refused UnknownLetter → r ≡ readOf bs
-  read-unknown e p = p ∙ sym (as-unknown (letterIn letters (getD bs 0 0)) bs (sym is ∙ e)) ∙ read-some bs some
+  read-unknown e p = p ∙ sym (by-letter ∙ as-unknown told refused (letterIn letters (getD bs 0 0)) bs (sym is ∙ e))
 
   pub read-long : {r : Reading} → (size ≡ 0 → ⊥) → (length bs ≡ size → ⊥) → r ≡ refused WrongLength → r ≡ readOf bs
-  read-long h e p = p ∙ sym (as-long (letterIn letters (getD bs 0 0)) bs (λ z. h (is ∙ z)) (λ z. e (z ∙ sym is))) ∙ read-some bs some
+  read-long h e p = p ∙ sym (by-letter ∙ as-long told refused (letterIn letters (getD bs 0 0)) bs (λ z. h (is ∙ z)) (λ z. e (z ∙ sym is)))
 
   pub is-sized : (size ≡ 0 → ⊥) → length bs ≡ size → Sized (letterIn letters (getD bs 0 0)) bs
   is-sized h e = record { isListed = λ z. h (is ∙ z); isLong = e ∙ is }
 
   pub read-judged : {r : Reading} → (size ≡ 0 → ⊥) → length bs ≡ size
       → r ≡ readFields (letterIn letters (getD bs 0 0)) (values (letterIn letters (getD bs 0 0) .rows) bs) → r ≡ readOf bs
-  read-judged h e p = p ∙ sym (as-fields (letterIn letters (getD bs 0 0)) bs (is-sized h e)) ∙ read-some bs some
+  unfolding readFields
+  read-judged h e p = p ∙ sym (by-letter ∙ as-fields told refused (letterIn letters (getD bs 0 0)) bs (is-sized h e))
 
 -- ---- by the kind of a message
 
@@ -148,11 +135,11 @@ module _ (bs : List ℕ) {m : Directory} {t : Texts} {ok : Bool} (is : m ≡ dir
   kept-directory = p ∙ rw (is, own-texts)
 
   pub directory-yes : ok ≡ true → accepted (message.Directory m) t ≡ readFields directoryLetter (values directoryRows bs)
-  unfolding readFields values
+  unfolding readFields fieldsRead values
   directory-yes y = rw (← kept-directory, y, is, own-texts)
 
   pub directory-no : {r : Reading} → ok ≡ false → r ≡ refused BadField → r ≡ readFields directoryLetter (values directoryRows bs)
-  unfolding readFields
+  unfolding readFields fieldsRead
   directory-no n q = rw (← kept-directory, n) q
 
 pub texts-copied : (bs : List ℕ) {a b c : List ℕ} → entrySize ≤ length bs → a ≡ overlay (replicate 8 0) 0 (part bs 4 8) → b ≡ overlay (replicate 13 0) 0 (part bs 20 13)

@@ -9,6 +9,7 @@ use lib.ListN.{drop, replicate}
 use Rattle.field.specs.Limits.{timeInRange, priceInRange}
 use Rattle.field.specs.Text.{within}
 use Rattle.message.specs.Layout.{Value, num, raw, numberAt, bytesAt, binary, decimal, text, bytes, Row, row, from}
+use Rattle.message.specs.Feed.{Letter, letterAmong}
 use Rattle.message.specs.declared.Stamp.{Stamp}
 use Rattle.message.specs.declared.Side.{Side}
 use Rattle.message.specs.declared.Side.the-variants.{Bid, Ask}
@@ -311,41 +312,37 @@ noTexts = record { symbol = replicate 8 0; underlying = replicate 13 0; reserved
 
 -- ---- THE TEN LETTERS, each with its exact length
 
-pub record Letter : Type 0 where
-  pub code : ℕ
-  pub size : ℕ
-  pub rows : List Row
-  pub makes : List Value → Message
-  pub texts : List Value → Texts
+-- what a message says: its record, and the texts beside it
+abbrev pub Content : Type 0
+Content = Message × Texts
 
-abbrev pub letter : ℕ → ℕ → List Row → (List Value → Message) → Letter
-letter code size rows makes = record { code = code; size = size; rows = rows; makes = makes; texts = λ vs. noTexts }
+abbrev pub letter : ℕ → ℕ → List Row → (List Value → Message) → Letter Content
+letter code size rows makes = record { code = code; size = size; rows = rows; makes = λ vs. (makes vs, noTexts) }
 
 -- S 12
-abbrev pub systemEventLetter : Letter
+abbrev pub systemEventLetter : Letter Content
 systemEventLetter = letter 83 12 systemEventRows (λ vs. message.SystemEvent (systemEventOf vs))
 
 -- m 63
-abbrev pub directoryLetter : Letter
+abbrev pub directoryLetter : Letter Content
 directoryLetter =
     record {
       code = 109;
       size = 63;
       rows = directoryRows;
-      makes = λ vs. message.Directory (directoryOf vs);
-      texts = λ vs. textsOf (drop 2 vs);
+      makes = λ vs. (message.Directory (directoryOf vs), textsOf (drop 2 vs));
     }
 
 -- H 16
-abbrev pub tradingActionLetter : Letter
+abbrev pub tradingActionLetter : Letter Content
 tradingActionLetter = letter 72 16 tradingActionRows (λ vs. message.TradingAction (tradingActionOf vs))
 
 -- q 36
-abbrev pub shortQuoteLetter : Letter
+abbrev pub shortQuoteLetter : Letter Content
 shortQuoteLetter = letter 113 36 shortQuoteRows (λ vs. message.ShortQuote (shortQuoteOf vs))
 
 -- Q 56
-abbrev pub longQuoteLetter : Letter
+abbrev pub longQuoteLetter : Letter Content
 longQuoteLetter = letter 81 56 longQuoteRows (λ vs. message.LongQuote (longQuoteOf vs))
 
 -- b a 26; bid is b
@@ -353,7 +350,7 @@ abbrev pub shortSideCode : Side → ℕ
 shortSideCode Bid = 98
 shortSideCode Ask = 97
 
-abbrev pub shortSideLetter : Side → Letter
+abbrev pub shortSideLetter : Side → Letter Content
 shortSideLetter s = letter (shortSideCode s) 26 shortSideRows (λ vs. message.ShortSide (shortSideOf s vs))
 
 -- B A 36; bid is B
@@ -361,14 +358,14 @@ abbrev pub longSideCode : Side → ℕ
 longSideCode Bid = 66
 longSideCode Ask = 65
 
-abbrev pub longSideLetter : Side → Letter
+abbrev pub longSideLetter : Side → Letter Content
 longSideLetter s = letter (longSideCode s) 36 longSideRows (λ vs. message.LongSide (longSideOf s vs))
 
 -- M 21
-abbrev pub endOfReplayLetter : Letter
+abbrev pub endOfReplayLetter : Letter Content
 endOfReplayLetter = letter 77 21 endOfReplayRows (λ vs. message.EndOfReplay (endOfReplayOf vs))
 
-unfoldable pub letters : List Letter
+unfoldable pub letters : List (Letter Content)
 letters =
     systemEventLetter
     ∷ directoryLetter
@@ -383,7 +380,7 @@ letters =
     ∷ []
 
 -- the letter of a message
-abbrev pub letterFor : Message → Letter
+abbrev pub letterFor : Message → Letter Content
 letterFor (message.SystemEvent m) = systemEventLetter
 letterFor (message.Directory m) = directoryLetter
 letterFor (message.TradingAction m) = tradingActionLetter
@@ -394,19 +391,8 @@ letterFor (message.LongSide m) = longSideLetter (m .side)
 letterFor (message.EndOfReplay m) = endOfReplayLetter
 
 -- a code that is not listed: no message is of its length
-abbrev pub unlisted : Letter
+abbrev pub unlisted : Letter Content
 unlisted = letter 0 0 [] (λ vs. message.EndOfReplay (endOfReplayOf vs))
 
-unfoldable pub letterIn : List Letter → ℕ → Letter
-letterIn [] c = unlisted
-letterIn (l ∷ ls) c = cond (eqb (l .code) c) l (letterIn ls c)
-
--- a constant table of codes and lengths, and what it says of a code
-unfoldable pub lengthTable : List Letter → List ℕ
-lengthTable [] = []
-lengthTable (l ∷ ls) = l .code ∷ l .size ∷ lengthTable ls
-
-unfoldable pub lengthIn : List ℕ → ℕ → ℕ
-lengthIn [] c = 0
-lengthIn (x ∷ []) c = 0
-lengthIn (x ∷ n ∷ xs) c = cond (eqb x c) n (lengthIn xs c)
+abbrev pub letterIn : List (Letter Content) → ℕ → Letter Content
+letterIn = letterAmong unlisted

@@ -1,3 +1,4 @@
 pub mod Layout
+pub mod Feed
 pub mod Letters
 pub mod Message

@@ -1,14 +1,14 @@
 -- Messages read from bytes and written to them: what is accepted, what is refused, and by which number.
 -- Assumes nothing.
 use Prim.Native.Nat.{ℕ}
-use mathlib.Core.Path.{_≡_}
 use mathlib.Core.Bool.{Bool, cond}
-use mathlib.Core.List.{List, [], _∷_}
-use lib.Dec.{eqb, leb}
+use mathlib.Core.List.{List, _∷_}
+use lib.Dec.{leb}
 use lib.ListN.{length}
 use Rattle.field.specs.Bytes.{overlay}
-use Rattle.message.specs.Layout.{values, keepsAll, bytesFor, Value, Fit}
-use Rattle.message.specs.Letters.{Letter, letters, letterIn, letterFor, fieldsOf, noTexts}
+use Rattle.message.specs.Layout.{keepsAll, bytesFor, Value, Fit}
+use Rattle.message.specs.Feed.{Letter, fieldsRead, bytesRead}
+use Rattle.message.specs.Letters.{Content, unlisted, letters, letterFor, fieldsOf, noTexts}
 use Rattle.message.specs.declared.Message.{Message}
 use Rattle.message.specs.declared.Message.the-variants as message
 use Rattle.message.specs.declared.Texts.{Texts}
@@ -40,20 +40,15 @@ accepted m t = record { answer = Is m; texts = t }
 abbrev pub refused : Refusal → Reading
 refused r = record { answer = Refused r; texts = noTexts }
 
--- 12 for a field outside its list or range, else the message that the fields make
-unfoldable pub readFields : Letter → List Value → Reading
-readFields l vs = cond (keepsAll (l .rows) vs) (accepted (l .makes vs) (l .texts vs)) (refused BadField)
+-- the feed's bytes read by its ten letters
+abbrev pub told : Content → Reading
+told x = accepted (x .0) (x .1)
 
--- before that 10 for an unknown letter, and 11 for a wrong length
-unfoldable pub readAs : Letter → List ℕ → Reading
-readAs l bs =
-    cond (eqb (l .size) 0) (refused UnknownLetter)
-    (cond (eqb (length bs) (l .size)) (readFields l (values (l .rows) bs)) (refused WrongLength))
+unfoldable pub readFields : Letter Content → List Value → Reading
+readFields = fieldsRead told refused
 
--- 10 for an empty message too
 unfoldable pub readOf : List ℕ → Reading
-readOf [] = refused UnknownLetter
-readOf (c ∷ bs) = readAs (letterIn letters c) (c ∷ bs)
+readOf = bytesRead told refused unlisted letters
 
 -- ---- WRITING
 
@@ -83,11 +78,6 @@ writeOf m t out =
     (outcome (Unwritten BrokenRecord) out)
 
 -- ---- what the theorems speak of
-
--- bytes of the length that a listed letter has
-pub record Sized (l : Letter) (bs : List ℕ) : Type 0 where
-  pub isListed : l .size ≡ 0 → ⊥
-  pub isLong : length bs ≡ l .size
 
 -- each number and text has room in its field, as every value that the code holds has
 abbrev pub Typed : Message → Texts → Type 0

@@ -18,8 +18,9 @@ ghost use lib.ListN.{length};
 ghost use Rattle.field.specs.Bytes.{part, be};
 ghost use Rattle.field.specs.Limits.{timeInRange};
 ghost use Rattle.message.specs.Layout.{values, keepsAll};
+ghost use Rattle.message.specs.Feed.{Sized};
 ghost use Rattle.message.specs.Letters.{listed, conditions, noTexts, letters, letterIn, directoryLetter, directoryRows, systemEventLetter, systemEventRows, tradingActionLetter, tradingActionRows, shortQuoteLetter, shortQuoteRows, longQuoteLetter, longQuoteRows, shortSideLetter, shortSideRows, longSideLetter, longSideRows, endOfReplayLetter, endOfReplayRows};
-ghost use Rattle.message.specs.Message.{Sized, accepted, readFields};
+ghost use Rattle.message.specs.Message.{accepted, readFields};
 
 // A message that has no texts, read whole.
 fn whole(m: Message) -> Reading

@@ -1,7 +1,8 @@
 // The letters of the feed, each with its exact length.
 use crate::Message;
 ghost use mathlib.Core.Path.{_≡_};
-ghost use Rattle.message.specs.Letters.{letters, letterIn, letterFor, lengthIn};
+ghost use Rattle.message.specs.Feed.{lengthIn};
+ghost use Rattle.message.specs.Letters.{letters, letterIn, letterFor};
 
 pub const SYSTEM_EVENT: usize = 12;
 

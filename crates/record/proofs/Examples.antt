@@ -6,7 +6,8 @@ use Prim.Native.Nat.{ℕ}
 use lib.ListN.{replicate, set}
 use Rattle.field.specs.Bytes.{part, overlay, digits, value, same}
 use Rattle.message.specs.Layout.{values}
-use Rattle.message.specs.Letters.{letterIn, noTexts}
+use Rattle.message.specs.Feed.{letterAmong}
+use Rattle.message.specs.Letters.{noTexts}
 use Rattle.message.specs.declared.Message.{Message}
 use Rattle.message.specs.declared.Message.the-variants as message
 use Rattle.message.specs.declared.Side.the-variants.{Ask}
@@ -35,18 +36,18 @@ unfolding ask askRecord recordBytes laidOver laid overlay digits
 put-ask = refl
 
 take-ask : recordOf askRecord ≡ held ask noTexts
-unfolding ask askRecord recordOf confirmed saidOf saidBy recordLetters letterIn values part value same recordBytes laidOver laid overlay digits
+unfolding ask askRecord recordOf confirmed saidOf saidBy recordLetters letterAmong values part value same recordBytes laidOver laid overlay digits
 take-ask = refl
 
 -- a price of 65,536, a byte of the bid, a letter that is not listed
 wide-price : recordOf (set askRecord 49 1) ≡ noRecord
-unfolding askRecord recordOf confirmed saidOf saidBy recordLetters letterIn values part value same recordBytes laidOver laid overlay digits
+unfolding askRecord recordOf confirmed saidOf saidBy recordLetters letterAmong values part value same recordBytes laidOver laid overlay digits
 wide-price = refl
 
 stray-byte : recordOf (set askRecord 24 1) ≡ noRecord
-unfolding askRecord recordOf confirmed saidOf saidBy recordLetters letterIn values part value same recordBytes laidOver laid overlay digits
+unfolding askRecord recordOf confirmed saidOf saidBy recordLetters letterAmong values part value same recordBytes laidOver laid overlay digits
 stray-byte = refl
 
 unknown-letter : recordOf (set askRecord 0 115) ≡ noRecord
-unfolding askRecord recordOf confirmed saidOf saidBy recordLetters letterIn values part value same recordBytes laidOver laid overlay digits
+unfolding askRecord recordOf confirmed saidOf saidBy recordLetters letterAmong values part value same recordBytes laidOver laid overlay digits
 unknown-letter = refl

@@ -14,7 +14,8 @@ use Rattle.field.proofs.Parts.{part-overlay}
 use Rattle.field.proofs.Same.{same-test}
 use Rattle.field.proofs.Answers.{equal-answers}
 use Rattle.message.specs.Layout.{Value, num, Row, asNumber, values}
-use Rattle.message.specs.Letters.{Letter, letterIn, letterFor, fieldsOf, shortSideCode, shortSideLetter, longSideCode, longSideLetter}
+use Rattle.message.specs.Feed.{Letter, letterAmong}
+use Rattle.message.specs.Letters.{Content, letterIn, letterFor, fieldsOf, shortSideCode, shortSideLetter, longSideCode, longSideLetter}
 use Rattle.message.specs.Message.{refusalNumber, writeRefusalNumber, accepted, readOf, bytesOf, keeps, outcome, writeOf, Typed, textsWith}
 use Rattle.message.specs.declared.Side.{Side}
 use Rattle.message.specs.declared.Side.the-variants.{Bid, Ask}
@@ -40,7 +41,7 @@ use Rattle.record.proofs.Typed.{Said, is-said, Record, is-record, recor
 
 -- ---- the places of a message
 
-record Placed (code : ℕ) (rows : List Row) (l : Letter) : Type 0 where
+record Placed (code : ℕ) (rows : List Row) (l : Letter Content) : Type 0 where
   plain : Plain (letterPlace ∷ rows)
   within : inside recordSize (letterPlace ∷ rows) ≡ true
   disjoint : apart (letterPlace ∷ rows) ≡ true
@@ -48,17 +49,17 @@ record Placed (code : ℕ) (rows : List Row) (l : Letter) : Type 0 where
   byte : code < 256
 
 short-placed : (s : Side) → Placed (shortSideCode s) (shortSidePlaces s) (recordLetter (shortSideLetter s) (shortSidePlaces s))
-unfolding inside apart outside recordLetters letterIn
+unfolding inside apart outside recordLetters letterAmong
 short-placed Bid = search (tt, arith) depth 60
 short-placed Ask = search (tt, arith) depth 60
 
 long-placed : (s : Side) → Placed (longSideCode s) (longSidePlaces s) (recordLetter (longSideLetter s) (longSidePlaces s))
-unfolding inside apart outside recordLetters letterIn
+unfolding inside apart outside recordLetters letterAmong
 long-placed Bid = search (tt, arith) depth 60
 long-placed Ask = search (tt, arith) depth 60
 
 placed : (m : Message) → Placed (letterFor m .code) (placesFor m) (recordLetterFor m)
-unfolding inside apart outside recordLetters letterIn
+unfolding inside apart outside recordLetters letterAmong
 placed (message.SystemEvent m) = search (tt, arith) depth 60
 placed (message.Directory m) = search (tt, arith) depth 60
 placed (message.TradingAction m) = search (tt, arith) depth 60
@@ -118,7 +119,7 @@ module _ (m : Message) (t : Texts) (f : Roomy m t) where
   unfolding saidOf saidBy
   said-is =
       let l = is-listed-letter m t in
-      rw (letter-back, placed m .letter, fields-back, l .made, l .texts)
+      rw (letter-back, placed m .letter, fields-back, l .made)
 
   -- THEOREM: a message is taken back from its record, with its texts
   pub take-back : recordOf (recordBytes m t) ≡ held m (textsWith m t)

@@ -13,13 +13,14 @@ use Rattle.field.specs.Limits.{numberInRange, highestNumber}
 use Rattle.field.proofs.Bools.{both-left, both-right}
 use Rattle.field.proofs.Same.{test-same}
 use Rattle.message.specs.Layout.{holds, values, keepsAll, Fit}
-use Rattle.message.specs.Letters.{Letter, letterIn, letterFor, fieldsOf}
+use Rattle.message.specs.Feed.{Letter}
+use Rattle.message.specs.Letters.{Content, letterIn, letterFor, unlisted, fieldsOf}
 use Rattle.message.specs.Message.{keeps, Typed}
 use Rattle.message.specs.declared.Message.{Message}
 use Rattle.message.specs.declared.Message.the-variants as message
 use Rattle.message.specs.declared.Texts.{Texts}
 use Rattle.message.proofs.Puts.{twenty}
-use Rattle.message.proofs.Table.{found, code-found}
+use Rattle.message.proofs.Feeds.{found, code-found}
 use Rattle.message.proofs.Typed.{inside, values-fit}
 use Rattle.record.specs.Places.{recordSize, placesFor, recordLetters}
 use Rattle.record.specs.Record.{recordBytes, held, noRecord, saidBy, saidOf, confirmed, recordOf, Roomy}
@@ -56,17 +57,17 @@ typed (message.EndOfReplay m) t f = (twenty (m .number) (f .0), tt)
 -- ---- a message that a record holds
 
 -- a letter makes a message whose fields, at their places in a record, are those that it was made of
-record Makes (l : Letter) (bs : List ℕ) : Type 0 where
-  own : placesFor (l .makes (values (l .rows) bs)) ≡ l .rows
-  code : letterFor (l .makes (values (l .rows) bs)) .code ≡ l .code
-  fields : fieldsOf (l .makes (values (l .rows) bs)) (l .texts (values (l .rows) bs)) ≡ values (l .rows) bs
+record Makes (l : Letter Content) (bs : List ℕ) : Type 0 where
+  own : placesFor (l .makes (values (l .rows) bs) .0) ≡ l .rows
+  code : letterFor (l .makes (values (l .rows) bs) .0) .code ≡ l .code
+  fields : fieldsOf (l .makes (values (l .rows) bs) .0) (l .makes (values (l .rows) bs) .1) ≡ values (l .rows) bs
   within : inside recordSize (l .rows) ≡ true
   kept : keepsAll (l .rows) (values (l .rows) bs) ≡ true
 
 record-makes : (c : ℕ) (bs : List ℕ) → (letterIn recordLetters c .size ≡ 0 → ⊥) → Makes (letterIn recordLetters c) bs
 unfolding recordLetters values inside keepsAll
 record-makes c bs =
-    found (λ (l : Letter). (l .size ≡ 0 → ⊥) → Makes l bs) c recordLetters (λ h. absurd (h refl)) (search tt depth 60)
+    found unlisted (λ (l : Letter Content). (l .size ≡ 0 → ⊥) → Makes l bs) c recordLetters (λ h. absurd (h refl)) (search tt depth 60)
 
 none-clash : {A : Type 0} {m : Message} {t : Texts} → noRecord ≡ held m t → A
 none-clash {m = m} e =
@@ -85,20 +86,20 @@ pub is-said : (bs : List ℕ) (m : Message) (t : Texts) → saidOf bs ≡ held m
 unfolding saidOf saidBy
 is-said bs m t = by (eqb (l .size) 0) refl
   where
-    l : Letter
+    l : Letter Content
     l = letterIn recordLetters (getD bs 0 0)
 
-    by : (b : Bool) → eqb (l .size) 0 ≡ b → cond b noRecord (held (l .makes (values (l .rows) bs)) (l .texts (values (l .rows) bs))) ≡ held m t → Said bs m t
+    by : (b : Bool) → eqb (l .size) 0 ≡ b → cond b noRecord (held (l .makes (values (l .rows) bs) .0) (l .makes (values (l .rows) bs) .1)) ≡ held m t → Said bs m t
     by true q e = none-clash e
     by false q e =
         let some : l .size ≡ 0 → ⊥ = eqb-false (l .size) 0 q in
         let w = record-makes (getD bs 0 0) bs some in
-        let o : Is (l .makes (values (l .rows) bs)) ≡ Is m = ap (λ (x : Held). x .taken) e in
-        let p : l .makes (values (l .rows) bs) ≡ m = cc in
-        let u : l .texts (values (l .rows) bs) ≡ t = ap (λ (x : Held). x .texts) e in
+        let o : Is (l .makes (values (l .rows) bs) .0) ≡ Is m = ap (λ (x : Held). x .taken) e in
+        let p : l .makes (values (l .rows) bs) .0 ≡ m = cc in
+        let u : l .makes (values (l .rows) bs) .1 ≡ t = ap (λ (x : Held). x .texts) e in
         let places : placesFor m ≡ l .rows = ap placesFor (sym p) ∙ w .own in
         record {
-          letter = ap (λ (x : Message). letterFor x .code) (sym p) ∙ w .code ∙ code-found recordLetters (getD bs 0 0) some;
+          letter = ap (λ (x : Message). letterFor x .code) (sym p) ∙ w .code ∙ code-found unlisted refl recordLetters (getD bs 0 0) some;
           fields = rw (places, ← p, ← u) (w .fields);
           within = rw places (w .within);
           kept = rw places (w .kept);

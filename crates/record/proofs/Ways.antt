@@ -11,7 +11,8 @@ use lib.ListN.{length, getD, replicate}
 use Rattle.field.specs.Bytes.{part, overlay, be, same}
 use Rattle.field.proofs.Parts.{part-length, part-whole, overlay-whole}
 use Rattle.message.specs.Layout.{values}
-use Rattle.message.specs.Letters.{Letter, letterIn, letterFor, noTexts, shortNumbersOf, textsOf}
+use Rattle.message.specs.Feed.{Letter}
+use Rattle.message.specs.Letters.{Content, letterIn, letterFor, unlisted, noTexts, shortNumbersOf, textsOf}
 use Rattle.message.specs.Message.{refusalNumber, writeRefusalNumber, readOf, keeps, bytesOf, Outcome, outcome, writeOf}
 use Rattle.message.specs.declared.ShortNumbers.{ShortNumbers}
 use Rattle.message.specs.declared.Message.{Message}
@@ -25,7 +26,7 @@ use Rattle.message.specs.declared.Written.{Written}
 use Rattle.message.specs.declared.Written.the-variants.{Whole, Unwritten}
 use Rattle.message.specs.declared.WriteRefusal.{WriteRefusal}
 use Rattle.message.specs.declared.WriteRefusal.the-variants.{BrokenRecord, ShortOutput}
-use Rattle.message.proofs.Table.{found}
+use Rattle.message.proofs.Feeds.{found}
 use Rattle.record.specs.Places.{recordSize, shortPlaces, instrumentPlaces, recordLetters}
 use Rattle.record.specs.Record.{laidOver, recordBytes, held, noRecord, saidBy, saidOf, confirmed, recordOf, answered, readTo, readAnswer, writtenAs, writeFrom, writeAnswer}
 use Rattle.record.specs.declared.Taken.{Taken}
@@ -68,7 +69,7 @@ pub no-arm : (c : ℕ) (bs : List ℕ) {r : Held} → (c ≡ 83 → ⊥) → (c 
     → (c ≡ 65 → ⊥) → (c ≡ 77 → ⊥) → r ≡ noRecord → r ≡ saidBy (letterIn recordLetters c) bs
 unfolding recordLetters saidBy
 no-arm c bs {r} n1 n2 n3 n4 n5 n6 n7 n8 n9 n10 p =
-    found (λ (l : Letter). r ≡ saidBy l bs) c recordLetters p
+    found unlisted (λ (l : Letter Content). r ≡ saidBy l bs) c recordLetters p
     ((λ e. absurd (n1 (sym e)))
     also (λ e. absurd (n2 (sym e)))
     also (λ e. absurd (n3 (sym e)))

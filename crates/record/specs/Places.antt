@@ -4,7 +4,8 @@
 use Prim.Native.Nat.{ℕ, _+_}
 use mathlib.Core.List.{List, [], _∷_, _++_}
 use Rattle.message.specs.Layout.{Row, row, binary, bytes}
-use Rattle.message.specs.Letters.{Letter, anything, letterFor, systemEventLetter, directoryLetter, tradingActionLetter, shortQuoteLetter, longQuoteLetter, shortSideLetter, longSideLetter, endOfReplayLetter}
+use Rattle.message.specs.Feed.{Letter}
+use Rattle.message.specs.Letters.{Content, anything, letterFor, systemEventLetter, directoryLetter, tradingActionLetter, shortQuoteLetter, longQuoteLetter, shortSideLetter, longSideLetter, endOfReplayLetter}
 use Rattle.message.specs.declared.Side.{Side}
 use Rattle.message.specs.declared.Side.the-variants.{Bid, Ask}
 use Rattle.message.specs.declared.Message.{Message}
@@ -101,10 +102,10 @@ placesFor (message.LongSide m) = longSidePlaces (m .side)
 placesFor (message.EndOfReplay m) = endOfReplayPlaces
 
 -- a letter of the feed, with its fields at their places in a record
-abbrev pub recordLetter : Letter → List Row → Letter
-recordLetter l rows = record { code = l .code; size = recordSize; rows = rows; makes = l .makes; texts = l .texts }
+abbrev pub recordLetter : Letter Content → List Row → Letter Content
+recordLetter l rows = record { code = l .code; size = recordSize; rows = rows; makes = l .makes }
 
-unfoldable pub recordLetters : List Letter
+unfoldable pub recordLetters : List (Letter Content)
 recordLetters =
     recordLetter systemEventLetter systemEventPlaces
     ∷ recordLetter directoryLetter directoryPlaces
@@ -118,5 +119,5 @@ recordLetters =
     ∷ recordLetter endOfReplayLetter endOfReplayPlaces
     ∷ []
 
-abbrev pub recordLetterFor : Message → Letter
+abbrev pub recordLetterFor : Message → Letter Content
 recordLetterFor m = recordLetter (letterFor m) (placesFor m)

@@ -7,7 +7,8 @@ use lib.Dec.{eqb}
 use lib.ListN.{length, getD, replicate}
 use Rattle.field.specs.Bytes.{overlay, same}
 use Rattle.message.specs.Layout.{Value, num, raw, Row, bytesIn, values, Fit}
-use Rattle.message.specs.Letters.{Letter, letterIn, letterFor, fieldsOf, noTexts}
+use Rattle.message.specs.Feed.{Letter}
+use Rattle.message.specs.Letters.{Content, letterIn, letterFor, fieldsOf, noTexts}
 use Rattle.message.specs.Message.{refusalNumber, writeRefusalNumber, readOf, writeOf}
 use Rattle.message.specs.declared.Message.{Message}
 use Rattle.message.specs.declared.Instrument.{Instrument}
@@ -59,8 +60,8 @@ abbrev pub noRecord : Held
 noRecord = record { taken = NoRecord; texts = noTexts }
 
 -- what the fields of 112 bytes say, by their letter; nothing for a letter that is not listed
-unfoldable pub saidBy : Letter → List ℕ → Held
-saidBy l bs = cond (eqb (l .size) 0) noRecord (held (l .makes (values (l .rows) bs)) (l .texts (values (l .rows) bs)))
+unfoldable pub saidBy : Letter Content → List ℕ → Held
+saidBy l bs = cond (eqb (l .size) 0) noRecord (held (l .makes (values (l .rows) bs) .0) (l .makes (values (l .rows) bs) .1))
 
 unfoldable pub saidOf : List ℕ → Held
 saidOf bs = saidBy (letterIn recordLetters (getD bs 0 0)) bs

@@ -12,7 +12,7 @@ use Rattle.message.proofs.judge.end_of_replay.Tie as tie
 returns : tie.Need-returns
 unfolding values
 returns c =
-    judged-yes endOfReplayLetter _ message.EndOfReplay _ refl refl
+    judged-yes endOfReplayLetter _ message.EndOfReplay _ refl
     (by-record endOfReplayRows _ endOfReplayFields _ refl (c .before .before .before .end-of-replay .ensures) (c .before .before .keep-end-of-replay .ensures)) (c .before .if1 .taken) (c .before .before .before .end-of-replay .ensures) (c .whole .ensures)
 
 returns-2 : tie.Need-returns-2

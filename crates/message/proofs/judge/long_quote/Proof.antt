@@ -11,7 +11,7 @@ use Rattle.message.proofs.judge.long_quote.Tie as tie
 
 returns : tie.Need-returns
 unfolding values
-returns c = judged-yes longQuoteLetter _ message.LongQuote _ refl refl (c .before .before .before .keep-long-quote .ensures) (c .before .before .if1 .taken) (c .before .long-quote .ensures) (c .whole .ensures)
+returns c = judged-yes longQuoteLetter _ message.LongQuote _ refl (c .before .before .before .keep-long-quote .ensures) (c .before .before .if1 .taken) (c .before .long-quote .ensures) (c .whole .ensures)
 
 returns-2 : tie.Need-returns-2
 unfolding values

@@ -11,7 +11,7 @@ use Rattle.message.proofs.judge.long_side.Tie as tie
 
 returns : tie.Need-returns
 unfolding values
-returns c = judged-yes (longSideLetter (c .before .before .before .before .before .args .side)) _ message.LongSide _ refl refl (c .before .before .before .keep-long-side .ensures) (c .before .before .if1 .taken) (c .before .long-side .ensures) (c .whole .ensures)
+returns c = judged-yes (longSideLetter (c .before .before .before .before .before .args .side)) _ message.LongSide _ refl (c .before .before .before .keep-long-side .ensures) (c .before .before .if1 .taken) (c .before .long-side .ensures) (c .whole .ensures)
 
 returns-2 : tie.Need-returns-2
 unfolding values

@@ -14,7 +14,7 @@ returns : tie.Need-returns
 unfolding values keepsAll
 returns c =
     let bs = c .before .before .before .before .before .args .bytes .now in
-    judged-yes shortQuoteLetter _ message.ShortQuote _ refl refl (head-kept (be (part bs 3 8)) (be (part bs 15 1)) (c .before .before .before .keep-head .ensures) _ refl) (c .before .before .if1 .taken) (c .before .short-quote .ensures) (c .whole .ensures)
+    judged-yes shortQuoteLetter _ message.ShortQuote _ refl (head-kept (be (part bs 3 8)) (be (part bs 15 1)) (c .before .before .before .keep-head .ensures) _ refl) (c .before .before .if1 .taken) (c .before .short-quote .ensures) (c .whole .ensures)
 
 returns-2 : tie.Need-returns-2
 unfolding values keepsAll

@@ -12,7 +12,7 @@ use Rattle.message.proofs.judge.system_event.Tie as tie
 returns : tie.Need-returns
 unfolding values
 returns c =
-    judged-yes systemEventLetter _ message.SystemEvent _ refl refl
+    judged-yes systemEventLetter _ message.SystemEvent _ refl
     (by-record systemEventRows _ systemEventFields _ refl (c .before .before .before .system-event .ensures) (c .before .before .keep-system-event .ensures)) (c .before .if1 .taken) (c .before .before .before .system-event .ensures) (c .whole .ensures)
 
 returns-2 : tie.Need-returns-2

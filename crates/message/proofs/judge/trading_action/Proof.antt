@@ -12,7 +12,7 @@ use Rattle.message.proofs.judge.trading_action.Tie as tie
 returns : tie.Need-returns
 unfolding values
 returns c =
-    judged-yes tradingActionLetter _ message.TradingAction _ refl refl
+    judged-yes tradingActionLetter _ message.TradingAction _ refl
     (by-record tradingActionRows _ tradingActionFields _ refl (c .before .before .before .trading-action .ensures) (c .before .before .keep-trading-action .ensures)) (c .before .if1 .taken) (c .before .before .before .trading-action .ensures) (c .whole .ensures)
 
 returns-2 : tie.Need-returns-2

@@ -5,8 +5,8 @@ use Prim.Native.Nat.{_+_, _≤_, _-_}
 use native.Mathlib.Omega.{arith}
 use lib.ListN.{length, drop}
 use borrow.Author.Needs.{needs}
-use Rattle.message.specs.Letters.{lengthIn}
-use Rattle.message.proofs.Table.{length-here, length-on, length-none}
+use Rattle.message.specs.Feed.{lengthIn}
+use Rattle.message.proofs.Feeds.{length-here, length-on, length-none}
 use Rattle.message.proofs.lengths.length_in.Statement.{statement}
 use Rattle.message.proofs.lengths.length_in.Tie as tie
 
