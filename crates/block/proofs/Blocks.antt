@@ -19,11 +19,6 @@ use Rattle.block.specs.declared.Head.{Head}
 use Rattle.block.proofs.Joins.{part-first, part-past, part-second, read-bytes}
 use Rattle.block.proofs.Checks.{check-below}
 
--- ---- the sizes fit one another
-
-pub sizes : (headSize + bodySize ≡ checkedSize) × (checkedSize + 2 ≡ blockSize)
-sizes = (refl, refl)
-
 -- ---- the head
 
 pub head-put : (xs : List ℕ) (at : ℕ) (h : Head) {us vs ws zs : List ℕ} → at + headSize ≤ length xs

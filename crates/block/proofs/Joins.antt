@@ -2,14 +2,14 @@
 -- Assumes nothing.
 use mathlib.Core.Path.{_≡_, sym, ap, _∙_}
 use mathlib.Core.List.{List, _++_}
-use Prim.Native.Nat.{ℕ, _+_, _-_, _≤_}
+use Prim.Native.Nat.{ℕ, _+_, _≤_}
 use native.Mathlib.Nat.{add-zero}
 use native.Mathlib.Omega.{arith}
 use lib.Dec.{lit<}
 use lib.ListN.{length, take, drop, length-drop}
 use lib.Seq.{take-append-le, drop-append-le, drop-append-add}
 use Rattle.field.specs.Bytes.{part, be, bytesBe, Bytes}
-use Rattle.field.proofs.Parts.{part-length, part-split, part-whole}
+use Rattle.field.proofs.Parts.{part-length, part-split}
 use Rattle.field.proofs.Numbers.{digits-value, part-bytes}
 
 -- in the first, from a place in the second on, from its start on, across both

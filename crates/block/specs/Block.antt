@@ -1,6 +1,6 @@
 -- A block: its head, its body, and the check of both.
 -- Assumes nothing.
-use Prim.Native.Nat.{ℕ, _+_, _*_, _%_}
+use Prim.Native.Nat.{ℕ, _+_, _-_, _*_, _%_}
 use mathlib.Core.Bool.{Bool, _&&_}
 use mathlib.Core.List.{List, [], _∷_, _++_}
 use lib.Dec.{eqb}
@@ -16,12 +16,12 @@ blockSize = 512
 abbrev pub headSize : ℕ
 headSize = 14
 
-abbrev pub bodySize : ℕ
-bodySize = 496
-
--- head and body; the check stands behind them
+-- head and body; the check stands in the two bytes behind them
 abbrev pub checkedSize : ℕ
-checkedSize = 510
+checkedSize = blockSize - 2
+
+abbrev pub bodySize : ℕ
+bodySize = checkedSize - headSize
 
 -- ---- the check
 

@@ -9,10 +9,10 @@ pub const BLOCK_SIZE: usize = 512;
 
 pub const HEAD_SIZE: usize = 14;
 
-pub const BODY_SIZE: usize = 496;
+// Head and body; the check stands in the two bytes behind them.
+pub const CHECKED_SIZE: usize = BLOCK_SIZE - 2;
 
-// Head and body; the check stands behind them.
-pub const CHECKED_SIZE: usize = 510;
+pub const BODY_SIZE: usize = CHECKED_SIZE - HEAD_SIZE;
 
 pub const MODULUS: usize = 65521;
 

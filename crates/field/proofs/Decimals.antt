@@ -1,21 +1,21 @@
 -- The laws of numbers in characters: digits, their value and their count, and both round trips.
 -- Assumes nothing.
 use mathlib.Core.Path.{_≡_, refl, sym, ap, _∙_}
-use mathlib.Core.Bool.{Bool, true, false, _&&_, cond, not}
+use mathlib.Core.Bool.{Bool, true, false, _&&_, cond}
 use mathlib.Core.List.{List, [], _∷_, _++_, map}
 use Prim.Native.Nat.{ℕ, zero, suc, _+_, _-_, _*_, _/_, _%_, _^_, _≤_, _<_}
-use native.Mathlib.Nat.{not-suc-le-zero, pow-suc, pow-succ', div-lt-iff-lt-mul, le-div-iff-mul-le, div-div-eq-div-mul, pow-le-pow-right, mod-lt, le-trans, lt-of-lt-of-le, mul-comm, mul-one, mul-le-mul-left, mod-eq-of-lt, mul-le-mul-right, add-zero, sub-zero, div-one}
+use native.Mathlib.Nat.{not-suc-le-zero, pow-suc, pow-succ', div-lt-iff-lt-mul, le-div-iff-mul-le, div-div-eq-div-mul, pow-le-pow-right, mod-lt, lt-of-lt-of-le, mul-one, mul-le-mul-left, mod-eq-of-lt, mul-le-mul-right, add-zero, sub-zero, div-one}
 use native.Mathlib.Decide.{decLt}
 use native.Mathlib.Omega.{arith}
-use borrow.Author.Tests.{le-leb, lt-leb, leb-true, lt-ltb, le-ltb, eqb-false, ne-eqb, not-true}
+use borrow.Author.Tests.{le-leb, leb-true, lt-ltb, le-ltb, eqb-false, ne-eqb, not-true}
 use lib.Dec.{leb, ltb, eqb, lit<}
-use lib.ListN.{length, take, drop, getD, set, replicate, length-append, length-map, length-replicate, take-append-drop, length-take, length-drop}
+use lib.ListN.{length, take, drop, getD, set, replicate, length-append, length-map, length-replicate, take-append-drop, length-drop}
 use lib.Seq.{take-append-seam, drop-append-seam, length-take-le}
 use Rattle.field.specs.declared.decimal.Number.{Number}
 use Rattle.field.specs.declared.decimal.Number.the-variants.{Is, Bad}
 use Rattle.field.specs.Bytes.{part, overlay, value, digits, Digits}
 use Rattle.field.specs.Limits.{highestNumber}
-use Rattle.field.specs.Text.{within, every, leading, isSpace, isDigit}
+use Rattle.field.specs.Text.{every, leading, isSpace, isDigit}
 use Rattle.field.specs.Decimal.{decimal, beginsWithNonZero, numberOf, numberAfterSpaces, numberBeforeSpaces, digitChars, oneOrMore, digitCountIn, digitCount, chars, charsThenSpaces, spacesThenChars}
 use Rattle.field.proofs.Parts.{part-length, part-at, part-none, part-cons, part-more, part-split, part-take, part-drop, overlay-none, overlay-before, overlay-next}
 use Rattle.field.proofs.Numbers.{pos, value-append, value-below, value-digits, digits-value, digits-length}

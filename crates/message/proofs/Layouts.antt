@@ -3,13 +3,13 @@
 use mathlib.Core.Path.{_≡_, refl, sym, ap, _∙_}
 use mathlib.Core.Bool.{Bool, true, false, _&&_}
 use mathlib.Core.List.{List, [], _∷_, _++_, append-assoc}
-use Prim.Native.Nat.{ℕ, _+_, _-_, _^_, _≤_, _<_}
+use Prim.Native.Nat.{ℕ, _+_, _-_, _≤_, _<_}
 use native.Mathlib.Omega.{arith}
 use borrow.Author.Tests.{eqb-true, leb-true}
 use lib.Dec.{eqb, leb, lit<}
 use lib.ListN.{length, take, drop, length-append, drop-of-length-le, take-append-drop}
 use lib.Seq.{take-at, drop-at, drop-drop}
-use Rattle.field.specs.Bytes.{part, be, bytesBe, Bytes}
+use Rattle.field.specs.Bytes.{part, Bytes}
 use Rattle.field.specs.Limits.{numberInRange, highestNumber}
 use Rattle.field.specs.Decimal.{numberBeforeSpaces, charsThenSpaces}
 use Rattle.field.specs.declared.decimal.Number.{Number}
@@ -25,8 +25,8 @@ use Rattle.message.specs.Layout.{Value, num, raw, Rule, binary, decimal,
 in-range : (n : ℕ) → numberInRange n ≡ true → (0 < n) × (n ≤ highestNumber)
 in-range n h = (leb-true 1 n (both-left (leb 1 n) (leb n highestNumber) h), leb-true n highestNumber (both-right (leb 1 n) (leb n highestNumber) h))
 
-no-value : false ≡ true → ⊥
-no-value e = let z : _≡_ {A = ℕ} 0 1 = cc in omega arith
+pub never : {A : Type 0} → false ≡ true → A
+never e = let z : _≡_ {A = ℕ} 0 1 = cc in absurd (omega arith)
 
 -- a value that fits its field and keeps its rule is read back from its bytes
 value-back : (r : Rule) (w : ℕ) (v : Value) → FitsIn r w v → holds r v ≡ true → valueIn r (bytesIn r w v) ≡ v
@@ -56,7 +56,7 @@ bytes-back decimal w b e s h = by (numberBeforeSpaces b) refl h
   where
     by : (x : Number) → numberBeforeSpaces b ≡ x → numberInRange (orZero x) ≡ true → charsThenSpaces w (orZero x) ≡ b
     by (Is n) i k = rw e at (of-before b n i)
-    by Bad i k = absurd (no-value k)
+    by Bad i k = never k
 bytes-back text w b e s h = refl
 bytes-back bytes w b e s h = refl
 

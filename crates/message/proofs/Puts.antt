@@ -12,7 +12,7 @@ use borrow.Rule.Slice.PartMut.{putMid}
 use Rattle.field.proofs.Parts.{part-length, part-whole, part-back, overlay-length, overlay-whole}
 use Rattle.field.proofs.Numbers.{digits-length}
 use Rattle.field.proofs.Decimals.{before-length, count-most}
-use Rattle.field.proofs.Writes.{Piece, piece, run-joined}
+use Rattle.field.proofs.Writes.{piece, run-joined}
 use Rattle.message.specs.Layout.{bytesFor}
 use Rattle.message.specs.Letters.{stampRows, stampFields, systemEventRows, systemEventFields, instrumentRows, instrumentFields, directoryRows, directoryFields, quoteRows, quoteFields, shortNumbersRows, shortNumbersFields, longNumbersRows, longNumbersFields, shortQuoteRows, shortQuoteFields, longQuoteRows, longQuoteFields, shortSideCode, shortSideRows, shortSideFields, longSideCode, longSideRows, longSideFields, endOfReplayRows, endOfReplayFields, entrySize, systemEventLetter, directoryLetter, shortQuoteLetter, longQuoteLetter, shortSideLetter, longSideLetter, endOfReplayLetter}
 use Rattle.message.specs.declared.Stamp.{Stamp}

@@ -26,6 +26,7 @@ use Rattle.message.specs.declared.Message.{Message}
 use Rattle.message.specs.declared.Texts.{Texts}
 use Rattle.message.specs.declared.Answer.the-variants as answer
 use Rattle.message.specs.declared.Reading.{Reading}
+use Rattle.message.proofs.Layouts.{never}
 use Rattle.message.proofs.Feeds.{found, Verdict, empty, unknown, long, field, whole}
 use Rattle.message.proofs.Table.{found-makes}
 use Rattle.message.proofs.Verdicts.{read-verdict, clash}
@@ -36,9 +37,6 @@ use Rattle.message.proofs.Verdicts.{read-verdict, clash}
 unfoldable pub inside : ℕ → List Row → Bool
 inside n [] = true
 inside n (r ∷ rs) = leb (r .at + r .width) n && inside n rs
-
-never : {A : Type 0} → false ≡ true → A
-never e = let z : _≡_ {A = ℕ} 0 1 = cc in absurd (omega arith)
 
 -- characters that write a number have room for its digits
 decimal-fits : (f : List ℕ) (w : ℕ) → length f ≡ w → (x : Number) → numberBeforeSpaces f ≡ x → numberInRange (orZero x) ≡ true → digitCount (orZero x) ≤ w
@@ -75,7 +73,7 @@ values-fit (r ∷ rs) bs n s l i h =
 -- a listed code is a byte
 pub listed-below : (xs : List ℕ) (c : ℕ) → every (within 0 255) xs ≡ true → listed xs c ≡ true → c < 256
 unfolding listed every
-listed-below [] c b e = let y : false ≡ true = e in let z : _≡_ {A = ℕ} 0 1 = cc in omega arith
+listed-below [] c b e = never e
 listed-below (x ∷ xs) c b e = by (eqb x c) refl e (listed-below xs c (both-right (within 0 255 x) (every (within 0 255) xs) b))
   where
     by : (t : Bool) → eqb x c ≡ t → cond t true (listed xs c) ≡ true → (listed xs c ≡ true → c < 256) → c < 256

@@ -1,7 +1,7 @@
 -- A message is accepted exactly when no refusal is given, and the refusal is the first in order; and answers are equal.
 -- Assumes nothing.
 use mathlib.Core.Path.{_≡_, sym, ap, _∙_}
-use mathlib.Core.Bool.{true, false}
+use mathlib.Core.Bool.{true}
 use mathlib.Core.List.{List, [], _∷_}
 use Prim.Native.Nat.{ℕ}
 use native.Mathlib.Omega.{arith}
@@ -17,6 +17,7 @@ use Rattle.message.specs.declared.Answer.the-variants as answer
 use Rattle.message.specs.declared.Refusal.{Refusal}
 use Rattle.message.specs.declared.Reading.{Reading}
 use Rattle.message.specs.declared.Written.{Written}
+use Rattle.message.proofs.Layouts.{never}
 use Rattle.message.proofs.Feeds.{Verdict, empty, unknown, long, field, whole, verdict}
 
 -- THEOREM: every reading is given under its condition
@@ -50,7 +51,7 @@ fine-taken : {bs : List ℕ} {r : Reading} → Verdict told refused (letterIn le
 fine-taken empty f = absurd f
 fine-taken (unknown c bs e) f = absurd (f .0 .isListed e)
 fine-taken (long c bs h l) f = absurd (l (f .0 .isLong))
-fine-taken (field c bs s e) f = let z : false ≡ true = sym e ∙ f .1 in let y : _≡_ {A = ℕ} 0 1 = cc in absurd (omega arith)
+fine-taken (field c bs s e) f = never (sym e ∙ f .1)
 fine-taken (whole c bs s e) f = tt
 
 -- THEOREM: a message is accepted exactly when its letter is listed, it has its letter's length, and its fields are in their lists and ranges

@@ -2,10 +2,10 @@
 -- Assumes nothing.
 use mathlib.Core.Path.{_≡_, refl, sym, ap, _∙_}
 use mathlib.Core.Bool.{Bool, true, false, cond, _&&_, _||_, and-true, and-assoc}
-use mathlib.Core.List.{List, [], _∷_}
-use Prim.Native.Nat.{ℕ, _+_, _≤_, _<_}
+use mathlib.Core.List.{List}
+use Prim.Native.Nat.{ℕ, _≤_, _<_}
 use native.Mathlib.Omega.{arith}
-use borrow.Author.Tests.{eq-eqb, ne-eqb, le-leb, lt-leb}
+use borrow.Author.Tests.{le-leb, lt-leb}
 use lib.Dec.{eqb}
 use lib.ListN.{length, getD, replicate}
 use Rattle.field.specs.Bytes.{part, overlay}
@@ -17,7 +17,7 @@ use Rattle.field.specs.declared.decimal.Number.the-variants as number
 use Rattle.field.proofs.Parts.{part-length, part-whole, overlay-whole}
 use Rattle.message.specs.Layout.{Value, Row, values, keepsAll}
 use Rattle.message.specs.Feed.{Letter, Sized, fieldsRead, letterRead}
-use Rattle.message.specs.Letters.{Content, listed, conditions, letters, letterIn, letterFor, unlisted, fieldsOf, noTexts, stampRows, stampOf, instrumentRows, entryRows, entrySize, instrumentOf, instrumentFields, textsOf, directoryRows, directoryOf, directoryFields, directoryLetter, endOfReplayRows, endOfReplayOf}
+use Rattle.message.specs.Letters.{Content, listed, conditions, letters, letterIn, letterFor, unlisted, noTexts, stampRows, stampOf, instrumentRows, entryRows, entrySize, instrumentOf, instrumentFields, textsOf, directoryRows, directoryOf, directoryFields, directoryLetter, endOfReplayRows, endOfReplayOf}
 use Rattle.message.specs.Message.{accepted, refused, told, readFields, readOf, bytesOf, keeps, outcome, writeOf}
 use Rattle.message.specs.declared.Message.{Message}
 use Rattle.message.specs.declared.Message.the-variants as message
@@ -26,9 +26,8 @@ use Rattle.message.specs.declared.Instrument.{Instrument}
 use Rattle.message.specs.declared.Directory.{Directory}
 use Rattle.message.specs.declared.EndOfReplay.{EndOfReplay}
 use Rattle.message.specs.declared.Texts.{Texts}
-use Rattle.message.specs.declared.Refusal.{Refusal}
 use Rattle.message.specs.declared.Refusal.the-variants.{UnknownLetter, WrongLength, BadField}
-use Rattle.message.specs.declared.Answer.the-variants.{Is, Refused}
+use Rattle.message.specs.declared.Answer.the-variants.{Is}
 use Rattle.message.specs.declared.Reading.{Reading}
 use Rattle.message.specs.declared.Written.the-variants.{Whole, Unwritten}
 use Rattle.message.specs.declared.WriteRefusal.the-variants.{BrokenRecord, ShortOutput}

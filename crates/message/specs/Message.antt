@@ -14,7 +14,6 @@ use Rattle.message.specs.declared.Message.the-variants as message
 use Rattle.message.specs.declared.Texts.{Texts}
 use Rattle.message.specs.declared.Refusal.{Refusal}
 use Rattle.message.specs.declared.Refusal.the-variants.{UnknownLetter, WrongLength, BadField}
-use Rattle.message.specs.declared.Answer.{Answer}
 use Rattle.message.specs.declared.Answer.the-variants.{Is, Refused}
 use Rattle.message.specs.declared.Reading.{Reading}
 use Rattle.message.specs.declared.Written.{Written}

@@ -14,7 +14,7 @@ use crate::lengths;
 use crate::numbers;
 use field::decimal;
 ghost use mathlib.Core.Path.{_≡_};
-ghost use Prim.Native.Nat.{_+_, _≤_};
+ghost use Prim.Native.Nat.{_≤_};
 ghost use lib.ListN.{length};
 ghost use Rattle.field.specs.Bytes.{part, be};
 ghost use Rattle.message.specs.Layout.{values};

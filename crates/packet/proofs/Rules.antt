@@ -5,9 +5,6 @@ use mathlib.Core.Bool.{Bool, true, false, _&&_, not, cond}
 use Prim.Native.Nat.{ℕ}
 use native.Mathlib.Omega.{arith}
 
-pub if-yes : {A : Type 0} (a : Bool) (b d x : A) → a ≡ true → x ≡ b → x ≡ cond a b d
-if-yes a b d x e f = rw (e, f)
-
 pub if-no : {A : Type 0} (a : Bool) (b d x : A) → a ≡ false → x ≡ d → x ≡ cond a b d
 if-no a b d x e f = rw (e, f)
 
@@ -33,13 +30,6 @@ not-not-call false a e f = let z : true ≡ false = f in cc
 
 pub never : false ≡ true → ⊥
 never e = let z : _≡_ {A = ℕ} 0 1 = cc in omega arith
-
--- a chain of `&&`
-pub no : (a b : Bool) → a ≡ false → false ≡ a && b
-no a b e = rw e
-
-pub on : (a b x : Bool) → a ≡ true → x ≡ b → x ≡ a && b
-on a b x e f = rw (e, f)
 
 pub and-both : (a b : Bool) → a && b ≡ true → (a ≡ true) × (b ≡ true)
 and-both true b e = (refl, e)

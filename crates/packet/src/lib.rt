@@ -7,7 +7,6 @@ ghost use Prim.Native.Nat.{_+_, _≤_, _<_};
 ghost use lib.ListN.{length};
 ghost use Rattle.field.specs.Bytes.{part, overlay};
 ghost use Rattle.field.specs.Limits.{highestNumber};
-ghost use Rattle.packet.specs.Refusals.{faultNumber};
 ghost use Rattle.packet.specs.Frame.{heldSize, roomFor, frame, frontOf};
 ghost use Rattle.packet.specs.Line.{freshLine, waiting, loggedIn, counted, follows, loginOf, BodyFits, meantOf, packetOf};
 
@@ -18,7 +17,7 @@ mod table;
 pub const LONGEST_PACKET: usize = 256;
 
 // The longest packet with its length bytes.
-pub const HELD_SIZE: usize = 258;
+pub const HELD_SIZE: usize = LONGEST_PACKET + 2;
 
 // What stands at the front of some bytes; of a whole packet, its L.
 pub enum Framing {
@@ -54,19 +53,6 @@ pub enum Packet {
     End,
     Skipped,
     Refused(Fault),
-}
-
-pub fn fault_number(f: Fault) -> u8
-    ensures { λ r. ⌜ r ≡ faultNumber f ⌝ }
-{
-    match f {
-        Fault::BadLength => 1,
-        Fault::UnknownLetter => 2,
-        Fault::WrongPlace => 3,
-        Fault::BadForm => 4,
-        Fault::NotNext => 5,
-        Fault::NumbersUsedUp => 6,
-    }
 }
 
 pub fn front(bytes: &[u8]) -> Framing

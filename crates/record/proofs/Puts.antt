@@ -148,7 +148,7 @@ pub laid-as : (m′ : Message) {m : Message} (t : Texts) (xs : List ℕ) {zs : L
 laid-as m′ t xs e p = rw e p
 
 -- over zeros
-pub record-put : (xs : List ℕ) (m : Message) (t : Texts) {us zs : List ℕ} → length xs ≡ recordSize → us ≡ overlay xs 0 (replicate 112 0) → zs ≡ laidOver m t us
+pub record-put : (xs : List ℕ) (m : Message) (t : Texts) {us zs : List ℕ} → length xs ≡ recordSize → us ≡ overlay xs 0 (replicate recordSize 0) → zs ≡ laidOver m t us
     → zs ≡ recordBytes m t
 unfolding recordBytes
-record-put xs m t h e f = f ∙ ap (laidOver m t) (e ∙ overlay-whole xs (replicate 112 0) (length-replicate {A = ℕ} 112 0 ∙ sym h))
+record-put xs m t h e f = f ∙ ap (laidOver m t) (e ∙ overlay-whole xs (replicate recordSize 0) (length-replicate {A = ℕ} recordSize 0 ∙ sym h))

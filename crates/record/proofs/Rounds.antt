@@ -8,7 +8,7 @@ use native.Mathlib.Omega.{arith}
 use borrow.Author.Tests.{eq-eqb, le-leb, leb-true}
 use lib.Dec.{eqb, leb}
 use lib.ListN.{length, getD, drop, replicate, length-replicate}
-use Rattle.field.specs.Bytes.{part, overlay, be, same, Bytes}
+use Rattle.field.specs.Bytes.{part, overlay, be, Bytes}
 use Rattle.field.proofs.Numbers.{be-one}
 use Rattle.field.proofs.Parts.{part-overlay}
 use Rattle.field.proofs.Same.{same-test}
@@ -37,7 +37,7 @@ use Rattle.record.specs.Record.{laid, laidOver, recordBytes, held, saidB
 use Rattle.record.specs.declared.Taken.{Taken}
 use Rattle.record.specs.declared.Taken.the-variants.{Is, NoRecord}
 use Rattle.record.proofs.Laid.{apart, outside, Plain, laid-length, part-kept, fit-wide, values-laid, laid-own}
-use Rattle.record.proofs.Typed.{Said, is-said, Record, is-record, record-roomy, roomy, typed}
+use Rattle.record.proofs.Typed.{is-said, is-record, record-roomy, roomy, typed}
 
 -- ---- the places of a message
 

@@ -2,8 +2,8 @@
 -- Assumes nothing.
 use mathlib.Core.Path.{_≡_, refl, sym, ap, _∙_}
 use mathlib.Core.Bool.{Bool, true, false, cond}
-use mathlib.Core.List.{List, [], _∷_}
-use Prim.Native.Nat.{ℕ, _+_, _^_, _≤_, _<_}
+use mathlib.Core.List.{List}
+use Prim.Native.Nat.{ℕ, _^_, _≤_, _<_}
 use native.Mathlib.Omega.{arith}
 use borrow.Author.Tests.{eqb-true, eqb-false, leb-true}
 use lib.Dec.{eqb, leb}
@@ -12,7 +12,7 @@ use Rattle.field.specs.Bytes.{same, Bytes}
 use Rattle.field.specs.Limits.{numberInRange, highestNumber}
 use Rattle.field.proofs.Bools.{both-left, both-right}
 use Rattle.field.proofs.Same.{test-same}
-use Rattle.message.specs.Layout.{holds, values, keepsAll, Fit}
+use Rattle.message.specs.Layout.{values, keepsAll}
 use Rattle.message.specs.Feed.{Letter}
 use Rattle.message.specs.Letters.{Content, letterIn, letterFor, unlisted, fieldsOf}
 use Rattle.message.specs.Message.{keeps, Typed}

@@ -12,7 +12,7 @@ use Rattle.field.specs.Bytes.{part, overlay, be, same}
 use Rattle.field.proofs.Parts.{part-length, part-whole, overlay-whole}
 use Rattle.message.specs.Layout.{values}
 use Rattle.message.specs.Feed.{Letter}
-use Rattle.message.specs.Letters.{Content, letterIn, letterFor, unlisted, noTexts, shortNumbersOf, textsOf}
+use Rattle.message.specs.Letters.{Content, letterIn, letterFor, unlisted, directoryLetter, noTexts, shortNumbersOf, textsOf}
 use Rattle.message.specs.Message.{refusalNumber, writeRefusalNumber, readOf, keeps, bytesOf, Outcome, outcome, writeOf}
 use Rattle.message.specs.declared.ShortNumbers.{ShortNumbers}
 use Rattle.message.specs.declared.Message.{Message}
@@ -85,9 +85,9 @@ no-arm c bs {r} n1 n2 n3 n4 n5 n6 n7 n8 n9 n10 p =
 -- ---- taken from bytes
 
 pub whole-same : (own bs : List ℕ) (m : Message) (t : Texts) {r : Bool} → own ≡ laidOver m t (replicate recordSize 0) → length own ≡ recordSize
-    → length bs ≡ recordSize → r ≡ same (part own 0 112) (part bs 0 112) → r ≡ same (recordBytes m t) bs
+    → length bs ≡ recordSize → r ≡ same (part own 0 recordSize) (part bs 0 recordSize) → r ≡ same (recordBytes m t) bs
 unfolding recordBytes
-whole-same own bs m t e k h p = p ∙ rw (part-whole own 112 k, part-whole bs 112 h, e)
+whole-same own bs m t e k h p = p ∙ rw (part-whole own recordSize k, part-whole bs recordSize h, e)
 
 pub take-long : (bs : List ℕ) {r : Held} → (length bs ≡ recordSize → ⊥) → r ≡ noRecord → r ≡ recordOf bs
 unfolding recordOf
@@ -138,7 +138,8 @@ module _ (bs memory : List ℕ) (x : Reading) (h : length memory ≡ recordSize)
 
 -- ---- written from a record
 
-size-most : (m : Message) → letterFor m .size ≤ 63
+-- no letter is longer than a directory
+size-most : (m : Message) → letterFor m .size ≤ directoryLetter .size
 size-most (message.SystemEvent m) = omega arith
 size-most (message.Directory m) = omega arith
 size-most (message.TradingAction m) = omega arith
@@ -160,7 +161,7 @@ count-is m t out n = by (keeps m t) (leb (letterFor m .size) (length out))
     by true false e = cc
     by false l e = cc
 
-pub count-most : (m : Message) (t : Texts) (out : List ℕ) (n : ℕ) {w : Written} {zs : List ℕ} → outcome w zs ≡ writeOf m t out → w ≡ Whole n → n ≤ 63
+pub count-most : (m : Message) (t : Texts) (out : List ℕ) (n : ℕ) {w : Written} {zs : List ℕ} → outcome w zs ≡ writeOf m t out → w ≡ Whole n → n ≤ directoryLetter .size
 count-most m t out n p e =
     omega (arith, size-most m, count-is m t out n (sym (ap (λ (o : Outcome). o .answer) p) ∙ e))
 

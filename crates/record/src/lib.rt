@@ -48,7 +48,7 @@ fn is_record(m: Message, t: Texts, bytes: &[u8]) -> bool
     requires { ⌜ length (now bytes) ≡ recordSize ⌝ }
     ensures { λ r. ⌜ r ≡ same (recordBytes m t) (now (bytes .entry)) ⌝ }
 {
-    let mut own = [0; 112];
+    let mut own = [0; RECORD_SIZE];
     lay::message(m, t, &mut own);
     field::equal(&own, 0, bytes, 0, RECORD_SIZE)
 }

@@ -2,6 +2,7 @@
 -- Assumes nothing.
 use Prim.Native.Nat.{_≤_}
 use borrow.Author.Needs.{needs}
+use Rattle.message.specs.Letters.{directoryLetter}
 use Rattle.record.proofs.Ways.{count-most, write-long, write-none, write-whole, write-refused}
 use Rattle.record.proofs.write.Statement.{statement}
 use Rattle.record.proofs.write.Tie as tie
@@ -10,10 +11,10 @@ returns : tie.Need-returns
 returns c = search (write-long, needs)
 
 cast-result : tie.Need-cast-result
-cast-result c = let h : c .before .n .given .0 .0 ≤ 63 = count-most _ _ _ _ (c .before .before .before .before .before .write .ensures) (c .before .n .given .1) in search needs
+cast-result c = let h : c .before .n .given .0 .0 ≤ directoryLetter .size = count-most _ _ _ _ (c .before .before .before .before .before .write .ensures) (c .before .n .given .1) in search needs
 
 mul-result : tie.Need-mul-result
-mul-result c = let h : c .before .n .given .0 .0 ≤ 63 = count-most _ _ _ _ (c .before .before .before .before .before .write .ensures) (c .before .n .given .1) in search needs
+mul-result c = let h : c .before .n .given .0 .0 ≤ directoryLetter .size = count-most _ _ _ _ (c .before .before .before .before .before .write .ensures) (c .before .n .given .1) in search needs
 
 returns-2 : tie.Need-returns-2
 returns-2 c = write-whole _ _ _ (c .before .before .before .before .before .before .before .before .before .before .before .before .if1 .left) (c .before .before .before .before .before .before .before .before .before .before .before .take .ensures) _ (c .before .before .before .before .before .before .before .before .taken .given .1) (c .before .before .before .before .before .write .ensures) _ (c .before .n .given .1)
