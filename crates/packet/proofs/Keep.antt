@@ -12,7 +12,7 @@ use Rattle.field.proofs.Parts.{part-length}
 use Rattle.packet.specs.Refusals.{faultNumber}
 use Rattle.packet.specs.Frame.{Framed, short, badLength, packet, frame}
 use Rattle.packet.specs.Stream.{Verdict, accept, finish, refuse, State, live, ended, refused, Run, readAll, reading, stepJudged, stepFramed, stepOf}
-use Rattle.packet.specs.Line.{loggedIn, counted, packetOf, InRange, LoggedIn}
+use Rattle.packet.specs.Line.{sessionSize, loginSize, loginSession, loggedIn, counted, packetOf, InRange, LoggedIn}
 use Rattle.packet.specs.Session.{Delivered, done, denied, Event, Session, delivered, does, soupBinTCP, isLogin, anyLogin}
 use Rattle.packet.specs.declared.Line.{Line}
 use Rattle.packet.specs.declared.Fault.{Fault}
@@ -78,7 +78,7 @@ module _ {S : Type 0} (P : S → Type 0) (Q : ℕ → Type 0) where
 module _ {D E : Type 0} (deliver : D → List ℕ → Delivered D E) where
   pub record Keeping (P : Session D → Type 0) (Q : ℕ → Type 0) : Type 0 where
     pub logins : (s : Session D) (body : List ℕ) (n : ℕ) → P s → Known (s .line) body (packets.Login n)
-        → P (record { line = loggedIn (s .line) (part body 0 10); about = s .about })
+        → P (record { line = loggedIn (s .line) (loginSession body); about = s .about })
     pub messages : (s : Session D) (body : List ℕ) → P s → Known (s .line) body packets.Message
         → VerdictHas P Q (delivered (s .line) (deliver (s .about) body))
     pub faults : (f : Fault) → Q (faultNumber f)
@@ -105,7 +105,7 @@ module _ {D E : Type 0} (deliver : D → List ℕ → Delivered D E) where
 
   -- ---- of the line alone
 
-  module _ (L : Line → Type 0) (logs : (l : Line) (body : List ℕ) → length body ≡ 30 → L l → L (loggedIn l (part body 0 10)))
+  module _ (L : Line → Type 0) (logs : (l : Line) (body : List ℕ) → length body ≡ loginSize → L l → L (loggedIn l (loginSession body)))
       (counts : (l : Line) → (l .next ≡ highestNumber → ⊥) → L l → L (counted l)) where
     delivered-keeps : (l : Line) (d : Delivered D E) → (l .next ≡ highestNumber → ⊥) → L l → VerdictHas (λ s. L (s .line)) (λ _. Unit) (delivered l d)
     delivered-keeps l (done e d) g h = counts l g h
@@ -127,8 +127,8 @@ module _ {D E : Type 0} (deliver : D → List ℕ → Delivered D E) where
       (λ l g h. record { some = omega (arith, h .some); most = omega (arith, g, h .most) })
 
   -- a line that is logged in stays so
-  pub logged-in : (l : Line) (body : List ℕ) → length body ≡ 30 → LoggedIn (loggedIn l (part body 0 10))
-  logged-in l body e = record { known = refl; logged = refl; ten = part-length body 0 10 (omega arith) }
+  pub logged-in : (l : Line) (body : List ℕ) → length body ≡ loginSize → LoggedIn (loggedIn l (loginSession body))
+  logged-in l body e = record { known = refl; logged = refl; ten = part-length body 0 sessionSize (omega arith) }
 
   pub logged-stays : Keeping (λ s. LoggedIn (s .line)) (λ _. Unit)
   logged-stays =

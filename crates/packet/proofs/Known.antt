@@ -15,7 +15,7 @@ use Rattle.field.specs.declared.decimal.Number.the-variants.{Is, Bad}
 use Rattle.field.proofs.Same.{test-same}
 use Rattle.packet.specs.Numbering.{noneLeft}
 use Rattle.packet.specs.Table.{TableRow, packetTable, entryOf, inPlace, ofSize}
-use Rattle.packet.specs.Line.{follows, loginWith, loginOf, meantOf, packetBy, packetOf}
+use Rattle.packet.specs.Line.{loginSize, loginSession, loginNumber, follows, loginWith, loginOf, meantOf, packetBy, packetOf}
 use Rattle.packet.specs.declared.Line.{Line}
 use Rattle.packet.specs.declared.table.Entry.{Entry}
 use Rattle.packet.specs.declared.Fault.{Fault}
@@ -26,7 +26,7 @@ use Rattle.packet.proofs.Rules.{both, and-both}
 use Rattle.packet.proofs.Ways.{EachRow, exactly}
 
 abbrev pub Known : Line → List ℕ → Packet → Type 0
-Known l body (Login n) = (length body ≡ 30) × (l .logged ≡ false) × (follows l (part body 0 10) n ≡ true)
+Known l body (Login n) = (length body ≡ loginSize) × (l .logged ≡ false) × (follows l (loginSession body) n ≡ true)
 Known l body (Rejected reason) = (length body ≡ 1) × (l .logged ≡ false)
 Known l body Message = (l .logged ≡ true) × (l .next ≡ highestNumber → ⊥)
 Known l body Heartbeat = length body ≡ 0
@@ -45,13 +45,13 @@ module _ (l : Line) (session : List ℕ) (n : ℕ) (f : follows l session n ≡ 
   follows-session k = test-same (l .session) session (rw k at (and-both (not (l .known) || same (l .session) session) (eqb n (l .next)) f .0))
 
 module _ (l : Line) (body : List ℕ) where
-  with-known : length body ≡ 30 → l .logged ≡ false → (x : Number) → Known l body (loginWith l (part body 0 10) x)
+  with-known : length body ≡ loginSize → l .logged ≡ false → (x : Number) → Known l body (loginWith l (loginSession body) x)
   with-known e f Bad = tt
-  with-known e f (Is n) = both (Known l body) (follows l (part body 0 10) n) (λ g. (e, f, g)) (λ _. tt)
+  with-known e f (Is n) = both (Known l body) (follows l (loginSession body) n) (λ g. (e, f, g)) (λ _. tt)
 
-  login-known : length body ≡ 30 → l .logged ≡ false → Known l body (loginOf l body)
+  login-known : length body ≡ loginSize → l .logged ≡ false → Known l body (loginOf l body)
   unfolding loginOf
-  login-known e f = with-known e f (numberAfterSpaces (part body 10 20))
+  login-known e f = with-known e f (numberAfterSpaces (loginNumber body))
 
   -- what holds of each meaning, in place and of the right L, and of every refusal holds of every packet
   module _ (P : Packet → Type 0) (refused : (f : Fault) → P (Refused f)) where

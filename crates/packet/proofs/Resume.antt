@@ -16,7 +16,7 @@ use Rattle.field.proofs.Decimals.{after-of, after-length, count-most}
 use Rattle.packet.specs.Frame.{packet, frame}
 use Rattle.packet.specs.Stream.{accept, live, Run, first, _then_, judged, readAll, reading}
 use Rattle.packet.specs.Table.{packetTable, entryOf}
-use Rattle.packet.specs.Line.{waiting, follows, loginOf, packetOf, InRange, LoggedIn}
+use Rattle.packet.specs.Line.{sessionSize, numberSize, loginSize, loginSession, loginNumber, waiting, follows, loginOf, packetOf, InRange, LoggedIn}
 use Rattle.packet.specs.Session.{Delivered, Event, login, Session, does, soupBinTCP, anyLogin, restored, loginPacket}
 use Rattle.packet.specs.declared.Line.{Line}
 use Rattle.packet.specs.declared.Packet.the-variants as packets
@@ -25,28 +25,28 @@ use Rattle.packet.proofs.Cut.{reading-at, reading-cut}
 use Rattle.packet.proofs.Keep.{session-keeps, range-stays, login-told}
 
 -- the characters of a number that a login can have
-number-length : (n : ℕ) → n ≤ highestNumber → length (spacesThenChars 20 n) ≡ 20
-number-length n h = after-length 20 n (omega (arith, count-most n 12 (omega arith)))
+number-length : (n : ℕ) → n ≤ highestNumber → length (spacesThenChars numberSize n) ≡ numberSize
+number-length n h = after-length numberSize n (omega (arith, count-most n 12 (omega arith)))
 
 -- ---- the login packet of a line
 
-module _ (l : Line) (range : InRange l) (ten : length (l .session) ≡ 10) where
+module _ (l : Line) (range : InRange l) (ten : length (l .session) ≡ sessionSize) where
   abbrev chars : List ℕ
-  chars = spacesThenChars 20 (l .next)
+  chars = spacesThenChars numberSize (l .next)
 
-  chars-length : length chars ≡ 20
+  chars-length : length chars ≡ numberSize
   chars-length = number-length (l .next) (range .most)
 
-  body-length : length (l .session ++ chars) ≡ 30
+  body-length : length (l .session ++ chars) ≡ loginSize
   body-length = length-append (l .session) chars ∙ omega (arith, chars-length)
 
-  session-part : part (l .session ++ chars) 0 10 ≡ l .session
+  session-part : loginSession (l .session ++ chars) ≡ l .session
   unfolding part
-  session-part = take-at (l .session) chars 10 ten
+  session-part = take-at (l .session) chars sessionSize ten
 
-  chars-part : part (l .session ++ chars) 10 20 ≡ chars
+  chars-part : loginNumber (l .session ++ chars) ≡ chars
   unfolding part
-  chars-part = ap (take 20) (drop-at (l .session) chars 10 ten) ∙ take-all 20 chars (omega (arith, chars-length))
+  chars-part = ap (take numberSize) (drop-at (l .session) chars sessionSize ten) ∙ take-all numberSize chars (omega (arith, chars-length))
 
   login-frame : (bs : List ℕ) → frame (loginPacket (l .session) (l .next) ++ bs) ≡ packet 65 (l .session ++ chars) bs
   login-frame bs = frame-packet 65 (l .session ++ chars) bs (omega (arith, body-length))
@@ -58,7 +58,7 @@ module _ (l : Line) (range : InRange l) (ten : length (l .session) ≡ 10) where
   login-found : packetOf (waiting (l .session) (l .next)) 65 (l .session ++ chars) ≡ packets.Login (l .next)
   unfolding packetOf entryOf packetTable loginOf
   login-found =
-      rw (body-length, chars-part, session-part, after-of 20 (l .next) (range .some) (range .most), follows-own)
+      rw (body-length, chars-part, session-part, after-of numberSize (l .next) (range .some) (range .most), follows-own)
 
 -- a line that is logged in is the restored one after its login
 line-back : (l : Line) → LoggedIn l → record { session = l .session; known = true; logged = true; next = l .next } ≡ l
@@ -68,10 +68,10 @@ line-back l h =
 
 module _ {D E : Type 0} (deliver : D → List ℕ → Delivered D E) where
   logged-again : (s : Session D) (range : InRange (s .line)) (h : LoggedIn (s .line))
-      → soupBinTCP deliver (restored s) 65 (s .line .session ++ spacesThenChars 20 (s .line .next)) ≡ accept (login (s .line .next) (s .line .session)) s
+      → soupBinTCP deliver (restored s) 65 (s .line .session ++ spacesThenChars numberSize (s .line .next)) ≡ accept (login (s .line .next) (s .line .session)) s
   unfolding soupBinTCP
   logged-again s range h =
-      ap (does deliver (restored s) (s .line .session ++ spacesThenChars 20 (s .line .next))) (login-found (s .line) range (h .ten))
+      ap (does deliver (restored s) (s .line .session ++ spacesThenChars numberSize (s .line .next))) (login-found (s .line) range (h .ten))
       ∙ simp (session-part (s .line) range (h .ten))
       (ap (λ (l : Line). accept (login (s .line .next) (s .line .session)) (let r : Session D = record { line = l; about = s .about } in r)) (line-back (s .line) h))
 

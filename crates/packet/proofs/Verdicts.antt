@@ -16,7 +16,7 @@ use Rattle.field.specs.declared.decimal.Number.{Number}
 use Rattle.field.specs.declared.decimal.Number.the-variants.{Is, Bad}
 use Rattle.packet.specs.Frame.{Framed, short, badLength, packet, longestPacket, framed, frame}
 use Rattle.packet.specs.Table.{packetTable, entryOf, inPlace, ofSize}
-use Rattle.packet.specs.Line.{follows, loginWith, loginOf, meantOf, packetBy, packetOf}
+use Rattle.packet.specs.Line.{loginSession, loginNumber, follows, loginWith, loginOf, meantOf, packetBy, packetOf}
 use Rattle.packet.specs.declared.Line.{Line}
 use Rattle.packet.specs.declared.table.Size.{Size}
 use Rattle.packet.specs.declared.table.Place.{Place}
@@ -62,12 +62,12 @@ module _ (l : Line) (body : List ℕ) where
   -- a packet in place and of the right L, by its meaning
   pub data Meant : Meaning → Packet → Type 0 where
     -- 4: a bad login number
-    badNumber : numberAfterSpaces (part body 10 20) ≡ Bad → Meant meaning.LoginAccepted (Refused BadForm)
+    badNumber : numberAfterSpaces (loginNumber body) ≡ Bad → Meant meaning.LoginAccepted (Refused BadForm)
     -- 5: the known session differs, or the number is not next
-    notNext : (n : ℕ) → numberAfterSpaces (part body 10 20) ≡ Is n → follows l (part body 0 10) n ≡ false → Meant meaning.LoginAccepted (Refused NotNext)
+    notNext : (n : ℕ) → numberAfterSpaces (loginNumber body) ≡ Is n → follows l (loginSession body) n ≡ false → Meant meaning.LoginAccepted (Refused NotNext)
     -- 6: S arrives and the next number is 10 ^ 12
     usedUp : l .next ≡ highestNumber → Meant meaning.Message (Refused NumbersUsedUp)
-    login : (n : ℕ) → numberAfterSpaces (part body 10 20) ≡ Is n → follows l (part body 0 10) n ≡ true → Meant meaning.LoginAccepted (Login n)
+    login : (n : ℕ) → numberAfterSpaces (loginNumber body) ≡ Is n → follows l (loginSession body) n ≡ true → Meant meaning.LoginAccepted (Login n)
     message : (l .next ≡ highestNumber → ⊥) → Meant meaning.Message Message
     rejected : Meant meaning.LoginRejected (Rejected (getD body 0 0))
     heartbeat : Meant meaning.Heartbeat Heartbeat
@@ -89,11 +89,11 @@ module _ (l : Line) (body : List ℕ) where
 
   -- ---- every packet is judged under its condition
 
-  login-by : (x : Number) → numberAfterSpaces (part body 10 20) ≡ x → Meant meaning.LoginAccepted (loginWith l (part body 0 10) x)
+  login-by : (x : Number) → numberAfterSpaces (loginNumber body) ≡ x → Meant meaning.LoginAccepted (loginWith l (loginSession body) x)
   login-by Bad e = badNumber e
-  login-by (Is n) e = by (follows l (part body 0 10) n) refl
+  login-by (Is n) e = by (follows l (loginSession body) n) refl
     where
-      by : (b : Bool) → follows l (part body 0 10) n ≡ b → Meant meaning.LoginAccepted (cond b (Login n) (Refused NotNext))
+      by : (b : Bool) → follows l (loginSession body) n ≡ b → Meant meaning.LoginAccepted (cond b (Login n) (Refused NotNext))
       by true f = login n e f
       by false f = notNext n e f
 
@@ -103,7 +103,7 @@ module _ (l : Line) (body : List ℕ) where
 
   meant-by : (m : Meaning) → Meant m (meantOf l body m)
   unfolding loginOf
-  meant-by meaning.LoginAccepted = login-by (numberAfterSpaces (part body 10 20)) refl
+  meant-by meaning.LoginAccepted = login-by (numberAfterSpaces (loginNumber body)) refl
   meant-by meaning.LoginRejected = rejected
   meant-by meaning.Message = message-by (eqb (l .next) highestNumber) refl
   meant-by meaning.Heartbeat = heartbeat
@@ -133,7 +133,7 @@ module _ (l : Line) (body : List ℕ) where
 
   -- what a meaning asks of a packet, beyond its place and L
   abbrev pub Asks : Meaning → Type 0
-  Asks meaning.LoginAccepted = (n : ℕ) × (numberAfterSpaces (part body 10 20) ≡ Is n) × (follows l (part body 0 10) n ≡ true)
+  Asks meaning.LoginAccepted = (n : ℕ) × (numberAfterSpaces (loginNumber body) ≡ Is n) × (follows l (loginSession body) n ≡ true)
   Asks meaning.LoginRejected = Unit
   Asks meaning.Message = l .next ≡ highestNumber → ⊥
   Asks meaning.Heartbeat = Unit

@@ -18,7 +18,7 @@ use Rattle.field.proofs.Parts.{part-all, part-length}
 use Rattle.packet.specs.Frame.{heldSize, roomFor}
 use Rattle.packet.specs.Numbering.{noneLeft}
 use Rattle.packet.specs.Table.{TableRow, packetTable, entryOf, inPlace, ofSize}
-use Rattle.packet.specs.Line.{loggedIn, follows, loginWith, loginOf, BodyFits, meantOf, packetBy, packetOf}
+use Rattle.packet.specs.Line.{sessionSize, loginSize, loginSession, loginNumber, loggedIn, follows, loginWith, loginOf, BodyFits, meantOf, packetBy, packetOf}
 use Rattle.packet.specs.declared.Line.{Line}
 use Rattle.packet.specs.declared.table.Size.{Size}
 use Rattle.packet.specs.declared.table.Size.the-variants.{Exact}
@@ -75,30 +75,30 @@ module _ (l : Line) (session : List ℕ) (n : ℕ) where
     unfolding follows
     any-session h = rw (h, eq-eqb n (l .next) next)
 
-    pub same-session : {r : Bool} → l .known ≡ true → length (l .session) ≡ 10 → r ≡ same (part (l .session) 0 10) session → r ≡ follows l session n
+    pub same-session : {r : Bool} → l .known ≡ true → length (l .session) ≡ sessionSize → r ≡ same (part (l .session) 0 sessionSize) session → r ≡ follows l session n
     unfolding follows
     same-session {r} h t e =
-        let w : part (l .session) 0 10 ≡ l .session = rw (← t) (part-all (l .session)) in
+        let w : part (l .session) 0 sessionSize ≡ l .session = rw (← t) (part-all (l .session)) in
         e ∙ rw (w, h, eq-eqb n (l .next) next) (sym (and-true (same (l .session) session)))
 
-module _ (l : Line) (body : List ℕ) {w : Number} (e : w ≡ numberAfterSpaces (part body 10 20)) where
-  login-by : {x : Number} → w ≡ x → loginWith l (part body 0 10) x ≡ loginOf l body
+module _ (l : Line) (body : List ℕ) {w : Number} (e : w ≡ numberAfterSpaces (loginNumber body)) where
+  login-by : {x : Number} → w ≡ x → loginWith l (loginSession body) x ≡ loginOf l body
   unfolding loginOf
-  login-by f = ap (loginWith l (part body 0 10)) (sym f ∙ e)
+  login-by f = ap (loginWith l (loginSession body)) (sym f ∙ e)
 
   pub login-bad : w ≡ Bad → Refused BadForm ≡ loginOf l body
   login-bad f = login-by f
 
-  pub login-yes : {n : ℕ} {r : Bool} → w ≡ Is n → r ≡ follows l (part body 0 10) n → r ≡ true → Login n ≡ loginOf l body
-  login-yes {n} {r} f g t = let y : follows l (part body 0 10) n ≡ true = yes-call r _ g t in rw y at (login-by f)
+  pub login-yes : {n : ℕ} {r : Bool} → w ≡ Is n → r ≡ follows l (loginSession body) n → r ≡ true → Login n ≡ loginOf l body
+  login-yes {n} {r} f g t = let y : follows l (loginSession body) n ≡ true = yes-call r _ g t in rw y at (login-by f)
 
-  pub login-no : {n : ℕ} {r : Bool} → w ≡ Is n → r ≡ follows l (part body 0 10) n → r ≡ false → Refused NotNext ≡ loginOf l body
-  login-no {n} {r} f g t = let y : follows l (part body 0 10) n ≡ false = no-call r _ g t in rw y at (login-by f)
+  pub login-no : {n : ℕ} {r : Bool} → w ≡ Is n → r ≡ follows l (loginSession body) n → r ≡ false → Refused NotNext ≡ loginOf l body
+  login-no {n} {r} f g t = let y : follows l (loginSession body) n ≡ false = no-call r _ g t in rw y at (login-by f)
 
 -- ---- a meaning
 
 module _ (m : Meaning) (n : ℕ) (fits : BodyFits m n) where
-  pub login-long : m ≡ meaning.LoginAccepted → n ≡ 30
+  pub login-long : m ≡ meaning.LoginAccepted → n ≡ loginSize
   login-long e = subst (λ (x : Meaning). BodyFits x n) e fits
 
   pub reason-there : m ≡ meaning.LoginRejected → 0 < n
@@ -175,10 +175,10 @@ room-rest used n h = rw (le-ltb n (heldSize - used) h)
 
 -- ---- a login's session, copied over the whole of an array
 
-pub logged-in-with : (l : Line) (xs body : List ℕ) {ys : List ℕ} → length xs ≡ 10 → 10 ≤ length body → ys ≡ overlay xs 0 (part body 0 10)
-    → loggedIn l ys ≡ loggedIn l (part body 0 10)
+pub logged-in-with : (l : Line) (xs body : List ℕ) {ys : List ℕ} → length xs ≡ sessionSize → sessionSize ≤ length body → ys ≡ overlay xs 0 (loginSession body)
+    → loggedIn l ys ≡ loggedIn l (loginSession body)
 unfolding overlay
 logged-in-with l xs body t h e =
-    let k : length (part body 0 10) ≡ 10 = part-length body 0 10 (omega arith) in
-    let d : drop 10 xs ≡ [] = rw (← t) (drop-length xs) in
-    ap (loggedIn l) (e ∙ rw (k, d) (append-nil (part body 0 10)))
+    let k : length (loginSession body) ≡ sessionSize = part-length body 0 sessionSize (omega arith) in
+    let d : drop sessionSize xs ≡ [] = ap (λ (n : ℕ). drop n xs) (sym t) ∙ drop-length xs in
+    ap (loggedIn l) (e ∙ rw (k, d) (append-nil (loginSession body)))

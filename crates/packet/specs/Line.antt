@@ -24,9 +24,25 @@ use Rattle.packet.specs.declared.Packet.the-variants.{Login, Rejected, M
 
 -- ---- lines
 
+-- a session has 10 bytes; a login's body is its session, and its number in 20 characters
+abbrev pub sessionSize : ℕ
+sessionSize = 10
+
+abbrev pub numberSize : ℕ
+numberSize = 20
+
+abbrev pub loginSize : ℕ
+loginSize = sessionSize + numberSize
+
+abbrev pub loginSession : List ℕ → List ℕ
+loginSession body = part body 0 sessionSize
+
+abbrev pub loginNumber : List ℕ → List ℕ
+loginNumber body = part body sessionSize numberSize
+
 -- no known session is ten spaces
 abbrev pub freshLine : Line
-freshLine = record { session = replicate 10 32; known = false; logged = false; next = firstNumber }
+freshLine = record { session = replicate sessionSize 32; known = false; logged = false; next = firstNumber }
 
 -- restored with a known session
 abbrev pub waiting : List ℕ → ℕ → Line
@@ -48,9 +64,9 @@ pub record InRange (l : Line) : Type 0 where
 pub record LoggedIn (l : Line) : Type 0 where
   pub known : l .known ≡ true
   pub logged : l .logged ≡ true
-  pub ten : length (l .session) ≡ 10
+  pub ten : length (l .session) ≡ sessionSize
 
--- ---- a login: its session is the body's first 10 bytes, and its number the 20 after them
+-- ---- a login
 
 -- a known session is the same, and the number is next
 unfoldable pub follows : Line → List ℕ → ℕ → Bool
@@ -61,7 +77,7 @@ loginWith l session Bad = Refused BadForm
 loginWith l session (Is n) = cond (follows l session n) (Login n) (Refused NotNext)
 
 unfoldable pub loginOf : Line → List ℕ → Packet
-loginOf l body = loginWith l (part body 0 10) (numberAfterSpaces (part body 10 20))
+loginOf l body = loginWith l (loginSession body) (numberAfterSpaces (loginNumber body))
 
 -- ---- what a packet is to a line
 
@@ -87,7 +103,7 @@ packetOf l letter body = packetBy l body (entryOf letter packetTable)
 
 -- what the table has seen to before a meaning is looked at
 abbrev pub BodyFits : Meaning → ℕ → Type 0
-BodyFits meaning.LoginAccepted n = n ≡ 30
+BodyFits meaning.LoginAccepted n = n ≡ loginSize
 BodyFits meaning.LoginRejected n = n ≡ 1
 BodyFits meaning.Message n = Unit
 BodyFits meaning.Heartbeat n = n ≡ 0

@@ -8,7 +8,7 @@ use Rattle.field.specs.Decimal.{spacesThenChars}
 use Rattle.packet.specs.Frame.{packetBytes}
 use Rattle.packet.specs.Refusals.{faultNumber}
 use Rattle.packet.specs.Stream.{Verdict, accept, finish, refuse, State, live, ended, refused}
-use Rattle.packet.specs.Line.{waiting, loggedIn, counted, packetOf}
+use Rattle.packet.specs.Line.{numberSize, loginSession, waiting, loggedIn, counted, packetOf}
 use Rattle.packet.specs.declared.Line.{Line}
 use Rattle.packet.specs.declared.Packet.{Packet}
 use Rattle.packet.specs.declared.Packet.the-variants.{Login, Rejected, Message, Heartbeat, End, Skipped, Refused}
@@ -40,7 +40,7 @@ module _ {D E : Type 0} where
 
 module _ {D E : Type 0} (deliver : D → List ℕ → Delivered D E) where
   abbrev pub does : Session D → List ℕ → Packet → Verdict (Session D) (Event E)
-  does s body (Login n) = accept (login n (part body 0 10)) (record { line = loggedIn (s .line) (part body 0 10); about = s .about })
+  does s body (Login n) = accept (login n (loginSession body)) (record { line = loggedIn (s .line) (loginSession body); about = s .about })
   does s body (Rejected reason) = finish (rejected reason) s
   does s body Message = delivered (s .line) (deliver (s .about) body)
   does s body Heartbeat = accept heartbeat s
@@ -96,4 +96,4 @@ restored s = record { line = waiting (s .line .session) (s .line .next); about =
 
 -- the login packet for a session and a number; A is 65
 abbrev pub loginPacket : List ℕ → ℕ → List ℕ
-loginPacket session n = packetBytes 65 (session ++ spacesThenChars 20 n)
+loginPacket session n = packetBytes 65 (session ++ spacesThenChars numberSize n)

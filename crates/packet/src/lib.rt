@@ -8,7 +8,7 @@ ghost use lib.ListN.{length};
 ghost use Rattle.field.specs.Bytes.{part, overlay};
 ghost use Rattle.field.specs.Limits.{highestNumber};
 ghost use Rattle.packet.specs.Frame.{heldSize, roomFor, frame, frontOf};
-ghost use Rattle.packet.specs.Line.{freshLine, waiting, loggedIn, counted, follows, loginOf, BodyFits, meantOf, packetOf};
+ghost use Rattle.packet.specs.Line.{sessionSize, loginSize, loginSession, freshLine, waiting, loggedIn, counted, follows, loginOf, BodyFits, meantOf, packetOf};
 
 pub mod numbering;
 mod table;
@@ -19,6 +19,11 @@ pub const LONGEST_PACKET: usize = 256;
 // The longest packet with its length bytes.
 pub const HELD_SIZE: usize = LONGEST_PACKET + 2;
 
+// A session's bytes, and the characters of a login's number.
+pub const SESSION_SIZE: usize = 10;
+
+const NUMBER_SIZE: usize = 20;
+
 // What stands at the front of some bytes; of a whole packet, its L.
 pub enum Framing {
     Short,
@@ -28,7 +33,7 @@ pub enum Framing {
 
 // A session, and where the reader is in it: is the session known, is it logged in, the next number.
 pub struct Line {
-    pub session: [u8; 10],
+    pub session: [u8; SESSION_SIZE],
     pub known: bool,
     pub logged: bool,
     pub next: u64,
@@ -99,25 +104,25 @@ pub fn joined(held: &[u8], used: usize, piece: &[u8], n: usize) -> [u8; HELD_SIZ
 
 // Does a login with the body's session and the number n go on where the line stands?
 fn login_follows(line: Line, body: &[u8], n: u64) -> bool
-    requires { ⌜ length (now body) ≡ 30 ⌝ }
-    ensures { λ r. ⌜ r ≡ follows line (part (now (body .entry)) 0 10) n ⌝ }
+    requires { ⌜ length (now body) ≡ loginSize ⌝ }
+    ensures { λ r. ⌜ r ≡ follows line (loginSession (now (body .entry))) n ⌝ }
 {
     if n == line.next {
         if line.known {
             let session = line.session;
-            return field::equal(&session, 0, body, 0, 10);
+            return field::equal(&session, 0, body, 0, SESSION_SIZE);
         }
         return true;
     }
     false
 }
 
-// A login: its session is the body's first 10 bytes, and its number the 20 after them.
+// A login: its session stands first in the body, and then its number.
 fn login(line: Line, body: &[u8]) -> Packet
-    requires { ⌜ length (now body) ≡ 30 ⌝ }
+    requires { ⌜ length (now body) ≡ loginSize ⌝ }
     ensures { λ r. ⌜ r ≡ loginOf line (now (body .entry)) ⌝ }
 {
-    match field::decimal::number_after_spaces(body, 10, 20) {
+    match field::decimal::number_after_spaces(body, SESSION_SIZE, NUMBER_SIZE) {
         Number::Bad => Packet::Refused(Fault::BadForm),
         Number::Is(n) => {
             if login_follows(line, body, n) {
@@ -171,7 +176,7 @@ impl Line {
         ensures { λ r. ⌜ r ≡ freshLine ⌝ }
     {
         Line {
-            session: [32u8; 10],
+            session: [32u8; SESSION_SIZE],
             known: false,
             logged: false,
             next: numbering::FIRST_NUMBER,
@@ -179,7 +184,7 @@ impl Line {
     }
 
     // Restored with a known session.
-    pub fn waiting(session: [u8; 10], next: u64) -> Line
+    pub fn waiting(session: [u8; SESSION_SIZE], next: u64) -> Line
         ensures { λ r. ⌜ r ≡ waiting session next ⌝ }
     {
         Line {
@@ -192,11 +197,11 @@ impl Line {
 
     // After the login with that body.
     pub fn logged_in(self, body: &[u8]) -> Line
-        requires { ⌜ 10 ≤ length (now body) ⌝ }
-        ensures { λ r. ⌜ r ≡ loggedIn self (part (now (body .entry)) 0 10) ⌝ }
+        requires { ⌜ sessionSize ≤ length (now body) ⌝ }
+        ensures { λ r. ⌜ r ≡ loggedIn self (loginSession (now (body .entry))) ⌝ }
     {
-        let mut session = [0u8; 10];
-        field::copy(body, 0, 10, &mut session, 0);
+        let mut session = [0u8; SESSION_SIZE];
+        field::copy(body, 0, SESSION_SIZE, &mut session, 0);
         Line {
             session,
             known: true,

@@ -4,13 +4,14 @@ use mathlib.Core.Path.{_≡_}
 use native.Mathlib.Omega.{arith}
 use borrow.Author.Needs.{needs}
 use lib.ListN.{length}
+use Rattle.packet.specs.Line.{sessionSize}
 use Rattle.packet.proofs.Ways.{other-number, any-session, same-session}
 use Rattle.packet.proofs.login_follows.Statement.{statement}
 use Rattle.packet.proofs.login_follows.Tie as tie
 
 equal-requires : tie.Need-equal-requires
 equal-requires c κs =
-    let ten : length (c .before .before .before .before .before .before .args .line .session) ≡ 10 = search needs in
+    let ten : length (c .before .before .before .before .before .before .args .line .session) ≡ sessionSize = search needs in
     omega arith
 
 returns : tie.Need-returns
