@@ -2,15 +2,18 @@
 -- Assumes nothing.
 use mathlib.Core.Path.{_≡_, refl}
 use mathlib.Core.List.{List, [], _∷_}
-use Prim.Native.Nat.{ℕ}
+use Prim.Native.Nat.{ℕ, _^_, _<_}
+use native.Mathlib.Omega.{arith}
 use Rattle.field.specs.Bytes.{part, value, digits}
-use Rattle.message.specs.Layout.{values, keepsAll, bytesFor}
-use Rattle.message.specs.Feed.{letterAmong, fieldsRead, letterRead, bytesRead}
-use Rattle.message.specs.Letters.{listed, letters, noTexts}
+use Rattle.message.specs.Layout.{num, numberAt, binary, row, values, keepsAll, bytesFor, tiled}
+use Rattle.message.specs.Feed.{Letter, letterAmong, fieldsRead, letterRead, bytesRead}
+use Rattle.message.specs.Letters.{anything, listed, letters, noTexts}
 use Rattle.message.specs.Message.{accepted, refused, readOf, bytesOf}
 use Rattle.message.specs.declared.Message.{Message}
 use Rattle.message.specs.declared.Message.the-variants as message
+use Rattle.message.specs.declared.Refusal.{Refusal}
 use Rattle.message.specs.declared.Refusal.the-variants.{UnknownLetter, WrongLength, BadField}
+use Rattle.message.proofs.Feeds.{written-read}
 
 -- start of messages, tracking number 7, at 9:30:00.123456789
 start : Message
@@ -39,3 +42,22 @@ unknown-letter = refl
 one-short : readOf (83 ∷ 0 ∷ 7 ∷ 0 ∷ 0 ∷ 0 ∷ 0 ∷ 0 ∷ 0 ∷ 0 ∷ 0 ∷ []) ≡ refused WrongLength
 unfolding readOf bytesRead letterRead letters letterAmong
 one-short = refl
+
+-- another feed is another list: here of one letter, T, whose record is its one number
+data Heard : Type 0 where
+  heard : ℕ → Heard
+  unheard : Refusal → Heard
+
+abbrev tick : Letter ℕ
+tick = record { code = 84; size = 3; rows = row 1 2 (binary anything) ∷ []; makes = λ vs. numberAt vs 0 }
+
+abbrev noTick : Letter ℕ
+noTick = record { code = 0; size = 0; rows = []; makes = λ vs. 0 }
+
+read-tick : bytesRead heard unheard noTick (tick ∷ []) (84 ∷ 1 ∷ 2 ∷ []) ≡ heard 258
+unfolding bytesRead letterRead fieldsRead letterAmong values keepsAll part value
+read-tick = refl
+
+tick-back : (n : ℕ) → n < 256 ^ 2 → bytesRead heard unheard noTick (tick ∷ []) (84 ∷ bytesFor (tick .rows) (num n ∷ [])) ≡ heard n
+unfolding letterAmong tiled keepsAll
+tick-back n h = written-read heard unheard noTick (tick ∷ []) tick (num n ∷ []) refl (λ e. omega arith) refl (h, tt) refl

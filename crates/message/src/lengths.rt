@@ -1,9 +1,10 @@
-// The letters of the feed, each with its exact length.
+// The letters of the feed, each with its exact length: one list, for reading and writing.
 use crate::Message;
 ghost use mathlib.Core.Path.{_≡_};
 ghost use Rattle.message.specs.Feed.{lengthIn};
 ghost use Rattle.message.specs.Letters.{letters, letterIn, letterFor};
 
+// How long a message of each kind is.
 pub const SYSTEM_EVENT: usize = 12;
 
 pub const DIRECTORY: usize = 63;
