@@ -6,7 +6,6 @@ use mathlib.Core.Bool.{Bool, true, false, _||_}
 use Prim.Native.Nat.{ℕ, _-_}
 use native.Mathlib.Omega.{arith}
 use lib.ListN.{length}
-use Rattle.field.specs.Bytes.{part}
 use Rattle.field.specs.Limits.{highestNumber}
 use Rattle.field.proofs.Parts.{part-length}
 use Rattle.packet.specs.Refusals.{faultNumber}

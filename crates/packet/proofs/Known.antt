@@ -7,7 +7,7 @@ use Prim.Native.Nat.{ℕ, _+_}
 use borrow.Author.Tests.{eqb-true, eqb-false, not-true}
 use lib.Dec.{eqb}
 use lib.ListN.{length}
-use Rattle.field.specs.Bytes.{part, same}
+use Rattle.field.specs.Bytes.{same}
 use Rattle.field.specs.Decimal.{numberAfterSpaces}
 use Rattle.field.specs.Limits.{highestNumber}
 use Rattle.field.specs.declared.decimal.Number.{Number}

@@ -9,7 +9,7 @@ use native.Mathlib.Omega.{arith}
 use borrow.Author.Tests.{eqb-true, eqb-false, leb-false}
 use lib.Dec.{eqb, leb}
 use lib.ListN.{length, getD}
-use Rattle.field.specs.Bytes.{part, be}
+use Rattle.field.specs.Bytes.{be}
 use Rattle.field.specs.Decimal.{numberAfterSpaces}
 use Rattle.field.specs.Limits.{highestNumber}
 use Rattle.field.specs.declared.decimal.Number.{Number}

@@ -3,7 +3,6 @@
 use Prim.Native.Nat.{ℕ, _+_}
 use mathlib.Core.Bool.{Bool, true, false, _||_}
 use mathlib.Core.List.{List, [], _∷_, _++_}
-use Rattle.field.specs.Bytes.{part}
 use Rattle.field.specs.Decimal.{spacesThenChars}
 use Rattle.packet.specs.Frame.{packetBytes}
 use Rattle.packet.specs.Refusals.{faultNumber}
