@@ -25,7 +25,8 @@ abbrev pub AllAt : {Rec : Type 0} → (Letter Rec → Type 0) → ℕ → List (
 AllAt P c [] = Unit
 AllAt P c (l ∷ ls) = (l .code ≡ c → P l) × AllAt P c ls
 
-pub found : {Rec : Type 0} (none : Letter Rec) (P : Letter Rec → Type 0) (c : ℕ) (ls : List (Letter Rec)) → P none → AllAt P c ls → P (letterAmong none ls c)
+pub found : {Rec : Type 0} (none : Letter Rec) (P : Letter Rec → Type 0) (c : ℕ) (ls : List (Letter Rec)) → P none → AllAt P c ls
+    → P (letterAmong none ls c)
 unfolding letterAmong
 found none P c [] u a = u
 found none P c (l ∷ ls) u a = by (eqb (l .code) c) refl (found none P c ls u (a .1))
@@ -44,19 +45,23 @@ unfoldable pub allTiled : {Rec : Type 0} → List (Letter Rec) → Bool
 allTiled [] = true
 allTiled (l ∷ ls) = tiled 1 (l .rows) (l .size) && allTiled ls
 
-letters-tiled : {Rec : Type 0} (c : ℕ) (ls : List (Letter Rec)) → allTiled ls ≡ true → AllAt (λ l. (l .size ≡ 0 → ⊥) → tiled 1 (l .rows) (l .size) ≡ true) c ls
+letters-tiled : {Rec : Type 0} (c : ℕ) (ls : List (Letter Rec)) → allTiled ls ≡ true
+    → AllAt (λ l. (l .size ≡ 0 → ⊥) → tiled 1 (l .rows) (l .size) ≡ true) c ls
 unfolding allTiled
 letters-tiled c [] t = tt
 letters-tiled c (l ∷ ls) t =
-    (λ e h. both-left (tiled 1 (l .rows) (l .size)) (allTiled ls) t, letters-tiled c ls (both-right (tiled 1 (l .rows) (l .size)) (allTiled ls) t))
+    let here : Bool = tiled 1 (l .rows) (l .size) in
+    (λ e h. both-left here (allTiled ls) t, letters-tiled c ls (both-right here (allTiled ls) t))
 
 module _ {Rec : Type 0} (none : Letter Rec) (empty : none .size ≡ 0) (ls : List (Letter Rec)) (c : ℕ) where
   -- the code that finds a letter is its own
   pub code-found : (letterAmong none ls c .size ≡ 0 → ⊥) → letterAmong none ls c .code ≡ c
   code-found = found none (λ l. (l .size ≡ 0 → ⊥) → l .code ≡ c) c ls (λ h. absurd (h empty)) (codes-own c ls)
 
-  pub tiled-found : allTiled ls ≡ true → (letterAmong none ls c .size ≡ 0 → ⊥) → tiled 1 (letterAmong none ls c .rows) (letterAmong none ls c .size) ≡ true
-  tiled-found t = found none (λ l. (l .size ≡ 0 → ⊥) → tiled 1 (l .rows) (l .size) ≡ true) c ls (λ h. absurd (h empty)) (letters-tiled c ls t)
+  pub tiled-found : allTiled ls ≡ true → (letterAmong none ls c .size ≡ 0 → ⊥)
+      → tiled 1 (letterAmong none ls c .rows) (letterAmong none ls c .size) ≡ true
+  tiled-found t =
+      found none (λ l. (l .size ≡ 0 → ⊥) → tiled 1 (l .rows) (l .size) ≡ true) c ls (λ h. absurd (h empty)) (letters-tiled c ls t)
 
   -- bytes of a letter that keep its rules are what their values are written as
   pub bytes-back : (bs : List ℕ) → allTiled ls ≡ true → Bytes (c ∷ bs) → Sized (letterAmong none ls c) (c ∷ bs)
@@ -68,12 +73,14 @@ module _ {Rec : Type 0} (none : Letter Rec) (empty : none .size ≡ 0) (ls : Lis
 
 -- ---- the table of lengths
 
-pub table-length : {Rec : Type 0} (none : Letter Rec) → none .size ≡ 0 → (ls : List (Letter Rec)) (c : ℕ) → lengthIn (lengthTable ls) c ≡ letterAmong none ls c .size
+pub table-length : {Rec : Type 0} (none : Letter Rec) → none .size ≡ 0 → (ls : List (Letter Rec)) (c : ℕ)
+    → lengthIn (lengthTable ls) c ≡ letterAmong none ls c .size
 unfolding lengthIn lengthTable letterAmong
 table-length none empty [] c = sym empty
 table-length none empty (l ∷ ls) c = by (eqb (l .code) c) (table-length none empty ls c)
   where
-    by : (b : Bool) → lengthIn (lengthTable ls) c ≡ letterAmong none ls c .size → cond b (l .size) (lengthIn (lengthTable ls) c) ≡ cond b l (letterAmong none ls c) .size
+    by : (b : Bool) → lengthIn (lengthTable ls) c ≡ letterAmong none ls c .size
+        → cond b (l .size) (lengthIn (lengthTable ls) c) ≡ cond b l (letterAmong none ls c) .size
     by true e = refl
     by false e = e
 
@@ -125,16 +132,19 @@ module _ {Rec Ans : Type 0} (accepted : Rec → Ans) (refused : Refusal → Ans)
     read-none [] e = refl
     read-none (c ∷ bs) e = absurd (omega arith)
 
-    pub read-some : (bs : List ℕ) → (length bs ≡ 0 → ⊥) → bytesRead accepted refused none ls bs ≡ letterRead accepted refused (letterAmong none ls (getD bs 0 0)) bs
+    pub read-some : (bs : List ℕ) → (length bs ≡ 0 → ⊥)
+        → bytesRead accepted refused none ls bs ≡ letterRead accepted refused (letterAmong none ls (getD bs 0 0)) bs
     unfolding bytesRead
     read-some [] h = absurd (h refl)
     read-some (c ∷ bs) h = refl
 
 -- each answer of a reading with the one condition under which it is given: no two of the conditions hold together
-pub data Verdict {Rec Ans : Type 0} (accepted : Rec → Ans) (refused : Refusal → Ans) (letterOf : ℕ → Letter Rec) : List ℕ → Ans → Type 0 where
+pub data Verdict {Rec Ans : Type 0} (accepted : Rec → Ans) (refused : Refusal → Ans) (letterOf : ℕ → Letter Rec)
+    : List ℕ → Ans → Type 0 where
   empty : Verdict accepted refused letterOf [] (refused UnknownLetter)
   unknown : (c : ℕ) (bs : List ℕ) → letterOf c .size ≡ 0 → Verdict accepted refused letterOf (c ∷ bs) (refused UnknownLetter)
-  long : (c : ℕ) (bs : List ℕ) → (letterOf c .size ≡ 0 → ⊥) → (length (c ∷ bs) ≡ letterOf c .size → ⊥) → Verdict accepted refused letterOf (c ∷ bs) (refused WrongLength)
+  long : (c : ℕ) (bs : List ℕ) → (letterOf c .size ≡ 0 → ⊥) → (length (c ∷ bs) ≡ letterOf c .size → ⊥)
+      → Verdict accepted refused letterOf (c ∷ bs) (refused WrongLength)
   field : (c : ℕ) (bs : List ℕ) → Sized (letterOf c) (c ∷ bs) → keepsAll (letterOf c .rows) (values (letterOf c .rows) (c ∷ bs)) ≡ false
       → Verdict accepted refused letterOf (c ∷ bs) (refused BadField)
   whole : (c : ℕ) (bs : List ℕ) → Sized (letterOf c) (c ∷ bs) → keepsAll (letterOf c .rows) (values (letterOf c .rows) (c ∷ bs)) ≡ true
@@ -160,17 +170,24 @@ module _ {Rec Ans : Type 0} (accepted : Rec → Ans) (refused : Refusal → Ans)
 
       sized : (b : Bool) → eqb (length (c ∷ bs)) (l .size) ≡ b → (l .size ≡ 0 → ⊥)
           → Ends (cond b (fieldsRead accepted refused l (values (l .rows) (c ∷ bs))) (refused WrongLength))
-      sized true e h = kept (keepsAll (l .rows) (values (l .rows) (c ∷ bs))) refl (record { isListed = h; isLong = eqb-true (length (c ∷ bs)) (l .size) e })
+      sized true e h =
+          kept (keepsAll (l .rows) (values (l .rows) (c ∷ bs))) refl
+          (record { isListed = h; isLong = eqb-true (length (c ∷ bs)) (l .size) e })
       sized false e h = long c bs h (eqb-false (length (c ∷ bs)) (l .size) e)
 
       known : (b : Bool) → eqb (l .size) 0 ≡ b
-          → Ends (cond b (refused UnknownLetter) (cond (eqb (length (c ∷ bs)) (l .size)) (fieldsRead accepted refused l (values (l .rows) (c ∷ bs))) (refused WrongLength)))
+          → Ends
+          (cond b (refused UnknownLetter)
+          (cond (eqb (length (c ∷ bs)) (l .size)) (fieldsRead accepted refused l (values (l .rows) (c ∷ bs))) (refused WrongLength)))
       known true e = unknown c bs (eqb-true (l .size) 0 e)
       known false e = sized (eqb (length (c ∷ bs)) (l .size)) refl (eqb-false (l .size) 0 e)
 
-  -- THEOREM: values of a listed letter that fit and keep their rules are read back, as the record that they make, from the bytes that they are written as
-  pub written-read : (l : Letter Rec) (vs : List Value) → letterAmong none ls (l .code) ≡ l → (l .size ≡ 0 → ⊥) → tiled 1 (l .rows) (l .size) ≡ true
-      → Fit (l .rows) vs → keepsAll (l .rows) vs ≡ true → bytesRead accepted refused none ls (l .code ∷ bytesFor (l .rows) vs) ≡ accepted (l .makes vs)
+  -- THEOREM: values of a listed letter that fit and keep their rules are read back, as the record that they make, from the bytes that they
+  -- are written as
+  pub written-read : (l : Letter Rec) (vs : List Value) → letterAmong none ls (l .code) ≡ l → (l .size ≡ 0 → ⊥)
+      → tiled 1 (l .rows) (l .size) ≡ true
+      → Fit (l .rows) vs → keepsAll (l .rows) vs ≡ true
+      → bytesRead accepted refused none ls (l .code ∷ bytesFor (l .rows) vs) ≡ accepted (l .makes vs)
   unfolding bytesRead letterRead fieldsRead
   written-read l vs own some t f k =
       rw (

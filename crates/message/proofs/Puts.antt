@@ -119,7 +119,8 @@ market-put xs m t {us} {vs} {zs} a b d l k h e f g =
     ∙ ap (λ (r : List ℕ). overlay xs 20 (t .underlying ++ (marksBytes m ++ r))) (append-nil (t .reserved))
 
 pub instrument-put : (xs : List ℕ) (m : Instrument) (t : Texts) {us vs zs : List ℕ} → length (t .symbol) ≡ 8 → length (t .underlying) ≡ 13 → length (t .reserved) ≡ 16
-    → entrySize ≤ length xs → us ≡ overlay xs 0 (bytesBe 4 (m .id)) → vs ≡ overlay us 4 (termsBytes m t) → zs ≡ overlay vs 20 (marketBytes m t)
+    → entrySize ≤ length xs → us ≡ overlay xs 0 (bytesBe 4 (m .id)) → vs ≡ overlay us 4 (termsBytes m t)
+    → zs ≡ overlay vs 20 (marketBytes m t)
     → zs ≡ overlay xs 0 (bytesFor instrumentRows (instrumentFields m t))
 unfolding digits bytesFor
 instrument-put xs m t {us} {vs} {zs} l k j h e f g =
@@ -178,7 +179,8 @@ long-quote-put xs m {us} {vs} {zs} h e f g =
     (piece 20 (bytesFor (longNumbersRows 16) (longNumbersFields (m .bid))) ∷ piece 20 (bytesFor (longNumbersRows 36) (longNumbersFields (m .ask))) ∷ [])
     (refl, (refl, (refl, tt))) h e (vs, f, (zs, g, refl))
 
-pub short-side-put : (xs : List ℕ) (m : ShortSide) (c : ℕ) {us zs : List ℕ} → shortSideLetter (m .side) .size ≤ length xs → c ≡ shortSideCode (m .side)
+pub short-side-put : (xs : List ℕ) (m : ShortSide) (c : ℕ) {us zs : List ℕ} → shortSideLetter (m .side) .size ≤ length xs
+    → c ≡ shortSideCode (m .side)
     → us ≡ overlay xs 0 (c ∷ bytesFor quoteRows (quoteFields (m .stamp) (m .id) (m .condition)))
     → zs ≡ overlay us 16 (bytesFor (shortNumbersRows 16) (shortNumbersFields (m .numbers)))
     → zs ≡ overlay xs 0 (shortSideCode (m .side) ∷ bytesFor shortSideRows (shortSideFields m))
@@ -188,7 +190,8 @@ short-side-put xs m c {us} {zs} h i e f =
     (piece 10 (bytesFor (shortNumbersRows 16) (shortNumbersFields (m .numbers))) ∷ []) (refl, (refl, tt)) h e (zs, f, refl)
     ∙ ap (λ (k : ℕ). overlay xs 0 (k ∷ bytesFor shortSideRows (shortSideFields m))) i
 
-pub long-side-put : (xs : List ℕ) (m : LongSide) (c : ℕ) {us zs : List ℕ} → longSideLetter (m .side) .size ≤ length xs → c ≡ longSideCode (m .side)
+pub long-side-put : (xs : List ℕ) (m : LongSide) (c : ℕ) {us zs : List ℕ} → longSideLetter (m .side) .size ≤ length xs
+    → c ≡ longSideCode (m .side)
     → us ≡ overlay xs 0 (c ∷ bytesFor quoteRows (quoteFields (m .stamp) (m .id) (m .condition)))
     → zs ≡ overlay us 16 (bytesFor (longNumbersRows 16) (longNumbersFields (m .numbers)))
     → zs ≡ overlay xs 0 (longSideCode (m .side) ∷ bytesFor longSideRows (longSideFields m))

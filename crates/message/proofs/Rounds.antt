@@ -39,7 +39,8 @@ module _ (m : Message) (t : Texts) (f : Typed m t) where
 
 -- ---- what is read is written back
 
-verdict-back : (bs : List ℕ) (x : Reading) → Bytes bs → Verdict told refused (letterIn letters) bs x → (m : Message) (t : Texts) → x ≡ accepted m t
+verdict-back : (bs : List ℕ) (x : Reading) → Bytes bs → Verdict told refused (letterIn letters) bs x → (m : Message) (t : Texts)
+    → x ≡ accepted m t
     → (bytesOf m t ≡ bs) × (keeps m t ≡ true)
 unfolding bytesOf keeps
 verdict-back bs x s empty m t e = clash (ap (λ (y : Reading). y .answer) e)

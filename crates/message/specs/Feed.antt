@@ -1,5 +1,5 @@
--- A feed as data: a list of letters, each with its exact length, its layout and the record that its fields make; and what a feed's bytes say.
--- Another feed is another list.
+-- A feed as data: a list of letters, each with its exact length, its layout and the record that its fields make; and what a feed's bytes
+-- say. Another feed is another list.
 -- Assumes nothing.
 use Prim.Native.Nat.{ℕ}
 use mathlib.Core.Path.{_≡_}
