@@ -14,10 +14,10 @@
 
 enum { STACK = 1 << 14, PAINT = 0x5A, ROUNDS = 200 };
 
-enum call { NONE, START, STEP, SAVE, RESTORE, READ, WRITE, LINE, CALLS };
+enum call { NONE, START, STEP, SAVE, RESTORE, READ, WRITE, LINE, FIND, CALLS };
 
 static const char *const names[CALLS] = {
-    "nothing", "start", "step", "save", "restore", "read", "write", "line"};
+    "nothing", "start", "step", "save", "restore", "read", "write", "line", "find"};
 
 static uint8_t handle[NELQUBAT_HANDLE_BYTES], table[NELQUBAT_TABLE_BYTES];
 static uint8_t event[NELQUBAT_RECORD_BYTES], record[NELQUBAT_RECORD_BYTES];
@@ -57,6 +57,9 @@ static void make_call(void)
         break;
     case WRITE:
         work.answer = nelqubat_write(in, n, image, NELQUBAT_MESSAGE_BYTES);
+        break;
+    case FIND:
+        work.answer = nelqubat_find(handle, sizeof handle, table, sizeof table, (uint32_t)n);
         break;
     default:
         work.answer = nelqubat_line(handle, sizeof handle, table, sizeof table, n, image, NELQUBAT_LINE_BYTES);
@@ -107,8 +110,11 @@ static void measure_session(struct dice *d, bool damaged)
             break;
     }
     measure(SAVE, NULL, 0);
-    for (size_t k = 0; k < 4; k++)
+    for (size_t k = 0; k < 4; k++) {
         measure(LINE, NULL, k);
+        measure(FIND, NULL, nelqubat_row_id(nelqubat_row(table, k)));
+    }
+    measure(FIND, NULL, UINT32_MAX);
     measure(LINE, NULL, nelqubat_handle_rows(handle) + 1);
 }
 

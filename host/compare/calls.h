@@ -17,6 +17,7 @@ struct calls {
     uint32_t (*write)(const uint8_t *, size_t, uint8_t *, size_t);
     uint32_t (*line)(const uint8_t *, size_t, const uint8_t *, size_t, size_t,
                      uint8_t *, size_t);
+    uint32_t (*find)(const uint8_t *, size_t, const uint8_t *, size_t, uint32_t);
 };
 
 extern const struct calls library_calls, plain_calls;

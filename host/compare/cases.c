@@ -24,6 +24,21 @@ static void add_lines(struct dice *d, struct script *s)
     add_line(d, far[dice_below(d, sizeof far / sizeof *far)], s);
 }
 
+/* An id that is looked for: mostly as it is given, else one near it, or any. */
+static uint32_t vary_id(struct dice *d, uint32_t id)
+{
+    if (dice_chance(d, 80))
+        return id;
+    return dice_chance(d, 50) ? id ^ UINT32_C(1) << dice_below(d, 32) : (uint32_t)dice_next(d);
+}
+
+static void add_find(struct dice *d, uint32_t id, struct script *s)
+{
+    struct call c = usual_call(CALL_FIND);
+    c.k = vary_id(d, id);
+    script_add(s, c, NULL, 0);
+}
+
 /* Output memory for a save: all, or about what some count of blocks needs. */
 static void add_save(struct dice *d, enum operation op, struct script *s)
 {
@@ -97,6 +112,17 @@ static size_t middle(struct dice *d, const struct bytes *session)
     return at < session->n ? at : session->n;
 }
 
+/* Looks for the ids of some of the session's messages, where they have one. */
+static void add_session_finds(struct dice *d, const struct bytes *session, struct script *s)
+{
+    enum { PACKET_ID = 14 };
+    for (size_t i = dice_between(d, 1, 4); i > 0; i--) {
+        size_t at = middle(d, session) + PACKET_ID;
+        if (at + 4 <= session->n)
+            add_find(d, (uint32_t)nelqubat_get(session->at + at, 4), s);
+    }
+}
+
 /* The handle that waits for the plan's login, made by start where it is
  * fresh, over a table that is not zero. */
 static void begin_session(struct dice *d, const struct session_plan *plan, struct script *s)
@@ -146,6 +172,8 @@ void make_session_case(struct dice *d, bool damaged, struct script *s, struct ta
         add_save(d, dice_chance(d, 50) ? CALL_SAVE : CALL_RESUME, s);
     if (dice_chance(d, 20))
         add_lines(d, s);
+    if (dice_chance(d, 20))
+        add_session_finds(d, &session, s);
     t->sessions++;
     t->damaged += damaged;
 }
@@ -211,10 +239,25 @@ static size_t make_piece(struct dice *d, const struct plain_reader *r,
     return piece.n;
 }
 
+/* A row of the table, mostly one in use. */
+static uint8_t *pick_row(struct dice *d, const struct plain_reader *r, uint8_t *table)
+{
+    bool any = r->rows == 0 || r->rows > NELQUBAT_MAX_ROWS || dice_chance(d, 20);
+    return table + dice_below(d, any ? NELQUBAT_MAX_ROWS : r->rows) * NELQUBAT_ROW_BYTES;
+}
+
+/* Gives a row the id of another, and looks for it. */
+static void add_repeated_id(struct dice *d, const struct plain_reader *r, struct script *s)
+{
+    uint8_t *row = pick_row(d, r, s->table);
+    memmove(pick_row(d, r, s->table), row, 4);
+    add_find(d, nelqubat_row_id(row), s);
+}
+
 static void add_handle_call(struct dice *d, const struct plain_reader *r, struct script *s)
 {
-    static const enum operation ops[] = {CALL_STEP, CALL_FEED, CALL_FEED, CALL_SAVE,
-                                         CALL_LINE, CALL_LINE, CALL_RESUME, CALL_START};
+    static const enum operation ops[] = {CALL_STEP, CALL_FEED, CALL_FEED, CALL_SAVE, CALL_LINE,
+                                         CALL_LINE, CALL_FIND, CALL_RESUME, CALL_START};
     uint8_t piece[600];
     struct call c = usual_call(ops[dice_below(d, sizeof ops / sizeof *ops)]);
     size_t n = 0;
@@ -222,6 +265,8 @@ static void add_handle_call(struct dice *d, const struct plain_reader *r, struct
         n = make_piece(d, r, s->table, piece, sizeof piece);
     if (c.op == CALL_LINE)
         c.k = dice_chance(d, 80) ? dice_below(d, (uint64_t)r->rows % 300 + 4) : dice_next(d);
+    if (c.op == CALL_FIND)
+        c.k = vary_id(d, nelqubat_row_id(pick_row(d, r, s->table)));
     if (c.op == CALL_SAVE || c.op == CALL_RESUME)
         c.memory_n = (uint32_t)make_length(d, NELQUBAT_BLOCK_BYTES *
                                                   (1 + (r->rows % 257 + 3) / 4));
@@ -236,6 +281,8 @@ void make_handle_case(struct dice *d, bool damaged, struct script *s, struct tal
     script_clear(s);
     dice_fill(d, s->handle + NELQUBAT_HANDLE_BYTES, SPARE_BYTES);
     make_reader(d, dice_chance(d, 70), &r, s->table);
+    if (dice_chance(d, 10)) /* rows out of use lie behind those in use */
+        r.rows = (uint32_t)dice_below(d, (uint64_t)r.rows + 1);
     if (dice_chance(d, 50))
         dice_fill(d, r.held + r.used, sizeof r.held - r.used);
     if (dice_chance(d, 20))
@@ -247,6 +294,8 @@ void make_handle_case(struct dice *d, bool damaged, struct script *s, struct tal
         damage_handle(d, &r, s->handle);
     for (size_t i = dice_between(d, 1, 6); i > 0; i--)
         add_handle_call(d, &r, s);
+    if (dice_chance(d, 10))
+        add_repeated_id(d, &r, s);
     s->thorough = dice_chance(d, 20);
     t->handles++;
     t->damaged += damaged;
@@ -270,6 +319,18 @@ static void make_any_image(struct dice *d, bool damaged, struct bytes *image)
     }
 }
 
+/* Looks for the id in one of the image's places for rows. */
+static void add_image_find(struct dice *d, const struct bytes *image, struct script *s)
+{
+    enum { BLOCK_ROWS = 14, ROWS_EACH = 4 };
+    size_t blocks = image->n / NELQUBAT_BLOCK_BYTES, at;
+    if (blocks < 2)
+        return;
+    at = dice_between(d, 1, blocks - 1) * NELQUBAT_BLOCK_BYTES + BLOCK_ROWS;
+    at += dice_below(d, ROWS_EACH) * NELQUBAT_ROW_BYTES;
+    add_find(d, (uint32_t)nelqubat_get(image->at + at, 4), s);
+}
+
 void make_image_case(struct dice *d, bool damaged, struct script *s, struct tally *t)
 {
     static uint8_t space[NELQUBAT_IMAGE_BYTES + NELQUBAT_BLOCK_BYTES];
@@ -287,6 +348,8 @@ void make_image_case(struct dice *d, bool damaged, struct script *s, struct tall
         add_save(d, dice_chance(d, 50) ? CALL_SAVE : CALL_RESUME, s);
     if (dice_chance(d, 20))
         add_lines(d, s);
+    if (dice_chance(d, 20))
+        add_image_find(d, &image, s);
     dice_fill(d, piece, sizeof piece);
     if (dice_chance(d, 20))
         script_add(s, usual_call(CALL_FEED), piece, sizeof piece);

@@ -300,6 +300,29 @@ static void restore_both(void)
     same_handle();
 }
 
+/* Each row is found by its id, which no other row of a session has. */
+static void find_rows(void)
+{
+    uint32_t answer;
+    for (size_t k = 0; k < reader.rows; k++) {
+        answer = nelqubat_find(handle, sizeof handle, table, sizeof table,
+                               (uint32_t)get_number(plain_table + k * PLAIN_ROW_BYTES + ROW_ID, 4));
+        EQUAL(nelqubat_refusal(answer), NELQUBAT_DONE);
+        EQUAL(nelqubat_found(answer), 1);
+        EQUAL(nelqubat_found_at(answer), k);
+        EQUAL(nelqubat_found_row(table, answer) == table + k * PLAIN_ROW_BYTES, 1);
+    }
+}
+
+/* Nothing is found: no row has the id, or the call is refused. */
+static void find_nothing(size_t table_n, uint32_t id, unsigned refusal)
+{
+    uint32_t answer = nelqubat_find(handle, sizeof handle, table, table_n, id);
+    EQUAL(nelqubat_refusal(answer), refusal);
+    EQUAL(nelqubat_found(answer), 0);
+    EQUAL(nelqubat_found_row(table, answer) == NULL, 1);
+}
+
 static void test_sessions(void)
 {
     static uint8_t space[1 << 17];
@@ -318,6 +341,9 @@ static void test_sessions(void)
         step_both(s.at, s.n);
         for (size_t k = 0; k < reader.rows; k++)
             same_row(nelqubat_row(table, k), plain_table + k * PLAIN_ROW_BYTES);
+        find_rows();
+        find_nothing(sizeof table, 0, NELQUBAT_DONE);
+        find_nothing(sizeof table - 1, nelqubat_row_id(table), NELQUBAT_REFUSED_MEMORY);
         restore_both();
     }
     start_both();

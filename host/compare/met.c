@@ -10,6 +10,8 @@ static const char *const kind_names[MET_KINDS] = {
 
 static const char *const line_names[MET_LINES] = {"first", "row", "last", "past"};
 
+static const char *const find_names[MET_FINDS] = {"found", "several", "none", "unused"};
+
 /* The refusals that document 01 gives each call, and 0 for done. What a step
  * refuses in a packet stands from then on, and is given again. */
 static const struct {
@@ -25,6 +27,7 @@ static const struct {
     [MET_READ] = {"read", 5, {0, 10, 11, 12, 20}},
     [MET_WRITE] = {"write", 4, {0, 20, 25, 26}},
     [MET_LINE] = {"line", 3, {0, 20, 25}},
+    [MET_FIND] = {"find", 2, {0, 20}},
 };
 
 static enum met_row row_of(const struct call *c, uint32_t answer)
@@ -32,7 +35,7 @@ static enum met_row row_of(const struct call *c, uint32_t answer)
     static const enum met_row rows_of[OPERATIONS] = {
         [CALL_START] = MET_START, [CALL_STEP] = MET_STEP, [CALL_SAVE] = MET_SAVE,
         [CALL_RESTORE] = MET_RESTORE, [CALL_READ] = MET_READ, [CALL_WRITE] = MET_WRITE,
-        [CALL_LINE] = MET_LINE};
+        [CALL_LINE] = MET_LINE, [CALL_FIND] = MET_FIND};
     bool repeats = c->op == CALL_STEP && nelqubat_kind(answer) == NELQUBAT_REFUSED &&
                    nelqubat_refusal(answer) != NELQUBAT_REFUSED_MEMORY &&
                    nelqubat_taken(answer) == 0;
@@ -51,7 +54,27 @@ static unsigned line_of(uint64_t k, uint64_t rows_used)
     return k == 0 ? 0 : k <= rows_used ? 1 : k == rows_used + 1 ? 2 : 3;
 }
 
-/* What a call that is done answers: a kind, a letter, a sort of line. */
+/* How many of the rows from one place to another have the id. */
+static size_t rows_with(const uint8_t *table, size_t from, size_t to, uint32_t id)
+{
+    size_t count = 0;
+    for (size_t k = from; k < to; k++)
+        count += nelqubat_row_id(nelqubat_row(table, k)) == id;
+    return count;
+}
+
+/* Whether the row found is the only one in use with the id, and where none is
+ * found, whether a row out of use has it. */
+static unsigned find_of(uint32_t id, uint32_t answer, const struct world *plain)
+{
+    const uint8_t *table = plain->table + GUARD_BYTES;
+    size_t used = nelqubat_handle_rows(plain->handle + GUARD_BYTES);
+    if (nelqubat_found(answer))
+        return rows_with(table, 0, used, id) > 1;
+    return rows_with(table, used, NELQUBAT_MAX_ROWS, id) > 0 ? 3 : 2;
+}
+
+/* What a call that is done answers: a kind, a letter, a sort of line or row. */
 static void count_done(struct met *m, const struct call *c, uint32_t answer,
                        const struct world *plain, const uint8_t *input)
 {
@@ -66,6 +89,8 @@ static void count_done(struct met *m, const struct call *c, uint32_t answer,
         count_letter(m->letters[2], input[0]);
     if (c->op == CALL_LINE)
         m->lines[line_of(c->k, nelqubat_handle_rows(plain->handle + GUARD_BYTES))]++;
+    if (c->op == CALL_FIND)
+        m->finds[find_of((uint32_t)c->k, answer, plain)]++;
 }
 
 void met_count(struct met *m, const struct call *c, uint32_t answer,
@@ -158,5 +183,6 @@ bool met_report(const struct met *m, bool all)
     good &= report_names("step", kind_names, m->kinds, MET_KINDS, all);
     for (size_t i = 0; i < MET_LETTER_CALLS; i++)
         good &= report_letters(letter_calls[i], m->letters[i], all);
-    return report_names("line", line_names, m->lines, MET_LINES, all) && good;
+    good &= report_names("line", line_names, m->lines, MET_LINES, all);
+    return report_names("find", find_names, m->finds, MET_FINDS, all) && good;
 }

@@ -399,3 +399,13 @@ uint32_t oracle_line(const uint8_t *handle, size_t handle_n,
     memcpy(out, line, n);
     return (uint32_t)n << 8;
 }
+
+uint32_t oracle_find(const uint8_t *handle, size_t handle_n,
+                     const uint8_t *table, size_t table_n, uint32_t id)
+{
+    struct plain_reader r;
+    const uint8_t *row;
+    if (!unpack_handle(handle, handle_n, &r) || plain_find(&r, table, table_n, id, &row) != 0)
+        return 20;
+    return row == NULL ? 0 : (uint32_t)((row - table) / PLAIN_ROW_BYTES + 1) << 8;
+}

@@ -31,5 +31,7 @@ uint32_t oracle_write(const uint8_t *record, size_t record_n,
 uint32_t oracle_line(const uint8_t *handle, size_t handle_n,
                      const uint8_t *table, size_t table_n,
                      size_t k, uint8_t *out, size_t out_n);
+uint32_t oracle_find(const uint8_t *handle, size_t handle_n,
+                     const uint8_t *table, size_t table_n, uint32_t id);
 
 #endif

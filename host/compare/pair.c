@@ -18,7 +18,7 @@ enum { WHOLE_EVERY = 64, ROWS_EACH_STEP = 16 };
 enum { GUARD_FILL = 0xA5, MEMORY_FILL = 0xC3 };
 
 static const char *const names[OPERATIONS] = {
-    "start", "step", "feed", "save", "restore", "resume", "read", "write", "line"};
+    "start", "step", "feed", "save", "restore", "resume", "read", "write", "line", "find"};
 
 const char *operation_name(enum operation op)
 {
@@ -166,6 +166,8 @@ static uint32_t make_call(const struct calls *f, struct world *w,
     case CALL_LINE:
         return f->line(handle, c->handle_n, table, c->table_n, (size_t)c->k, small,
                        c->memory_n);
+    case CALL_FIND:
+        return f->find(handle, c->handle_n, table, c->table_n, (uint32_t)c->k);
     default:
         return f->step(handle, c->handle_n, table, c->table_n, input, n, small,
                        c->memory_n);

@@ -23,7 +23,7 @@ enum {
  * ended or refuses. `resume` saves, restores what was saved and logs in again. */
 enum operation {
     CALL_START, CALL_STEP, CALL_FEED, CALL_SAVE, CALL_RESTORE, CALL_RESUME,
-    CALL_READ, CALL_WRITE, CALL_LINE,
+    CALL_READ, CALL_WRITE, CALL_LINE, CALL_FIND,
     OPERATIONS
 };
 
@@ -36,7 +36,7 @@ struct call {
     uint32_t handle_n, table_n;
     uint32_t memory_n; /* event, record or out memory */
     uint32_t input_n;
-    uint64_t k; /* the line that is asked for */
+    uint64_t k; /* the line or the id that is asked for */
 };
 
 /* A call that lends every memory with its right length, and much for output. */
@@ -55,16 +55,18 @@ struct world {
 /* What the calls met; met.h counts and prints it. */
 enum met_row {
     MET_START, MET_STEP, MET_AGAIN, MET_SAVE, MET_RESTORE, MET_READ, MET_WRITE, MET_LINE,
+    MET_FIND,
     MET_ROWS
 };
 
-enum { MET_REFUSALS = 27, MET_KINDS = 9, MET_LETTERS = 10, MET_LETTER_CALLS = 3, MET_LINES = 4 };
+enum { MET_REFUSALS = 27, MET_KINDS = 9, MET_LETTERS = 10, MET_LETTER_CALLS = 3, MET_LINES = 4, MET_FINDS = 4 };
 
 struct met {
     unsigned long refusals[MET_ROWS][MET_REFUSALS];
     unsigned long kinds[MET_KINDS];                      /* of a step's answer */
     unsigned long letters[MET_LETTER_CALLS][MET_LETTERS]; /* told by a step, read, written */
     unsigned long lines[MET_LINES];                      /* the first, a row's, the last, past it */
+    unsigned long finds[MET_FINDS];                      /* a row alone, of several, none, one out of use */
 };
 
 struct pair {

@@ -283,7 +283,7 @@ bool script_write(const struct script *s, const char *path, const char *remark)
     f = fopen(temporary, "w");
     if (f == NULL)
         return false;
-    fprintf(f, "%s\n# %s\n# CALL HANDLE-LENGTH TABLE-LENGTH MEMORY-LENGTH LINE INPUT\nhandle", title, remark);
+    fprintf(f, "%s\n# %s\n# CALL HANDLE-LENGTH TABLE-LENGTH MEMORY-LENGTH LINE-OR-ID INPUT\nhandle", title, remark);
     write_hex(f, s->handle, sizeof s->handle);
     write_table(f, s->table);
     write_calls(f, s);

@@ -625,6 +625,21 @@ static void do_list(char *line)
         continue;
 }
 
+static void do_find(char *line)
+{
+    const struct memory *given = &memories[GIVEN];
+    lay(line);
+    if (given->n != 4) {
+        fault("? id");
+        return;
+    }
+    uint32_t answer = calls->find(memories[HANDLE].bytes, memories[HANDLE].n, memories[TABLE].bytes, memories[TABLE].n,
+                                  (uint32_t)nelqubat_get(given->bytes, 4));
+    tell_refusal(answer, answer == 0 ? "no row" : "place ");
+    if (nelqubat_found(answer))
+        add("%u", (unsigned)(answer / 256));
+}
+
 /* ---- commands that do more */
 
 static void do_try(char *line)
@@ -795,7 +810,7 @@ static const struct command {
     {"start", do_start}, {"step", do_step}, {"feed", do_feed}, {"restore", do_restore},
     {"read", do_read}, {"write", do_write}, {"save", do_save},
     {"left", do_left}, {"same", do_same}, {"show", do_show}, {"number", do_number},
-    {"line", do_line}, {"list", do_list},
+    {"line", do_line}, {"list", do_list}, {"find", do_find},
     {"try", do_try}, {"values", do_values}, {"standing", do_standing}, {"damaged", do_damaged},
     {"cuts", do_cuts}, {"sizes", do_sizes}, {"resumed", do_resumed}};
 

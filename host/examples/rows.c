@@ -10,18 +10,6 @@
 
 static uint8_t handle[NELQUBAT_HANDLE_BYTES], table[NELQUBAT_TABLE_BYTES];
 
-enum { NO_ROW = UINT16_MAX };
-
-/* The place of the row for an id, the first among those in use, or NO_ROW. */
-static uint32_t find_row(uint32_t id)
-{
-    uint32_t rows = (uint32_t)nelqubat_handle_rows(handle);
-    for (uint32_t k = 0; k < rows; k++)
-        if (nelqubat_row_id(nelqubat_row(table, k)) == id)
-            return k;
-    return NO_ROW;
-}
-
 /* A side as price and size; a side that was never quoted as a dash. */
 static void print_side(int is_seen, struct nelqubat_side side)
 {
@@ -55,14 +43,15 @@ static int is_wanted(uint32_t id, const uint32_t *ids, int count)
 static void show(const uint8_t *record, const uint32_t *ids, int count)
 {
     uint8_t letter = nelqubat_record_letter(record);
-    uint32_t id = nelqubat_record_id(record), k;
+    uint32_t id = nelqubat_record_id(record);
+    const uint8_t *row;
     if (letter == 'S' || letter == 'M' || !is_wanted(id, ids, count))
         return;
-    k = find_row(id);
-    if (k == NO_ROW)
+    row = nelqubat_found_row(table, nelqubat_find(handle, sizeof handle, table, sizeof table, id));
+    if (row == NULL)
         return;
     printf("%" PRIu64 " %c ", nelqubat_handle_next(handle) - 1, letter);
-    print_row(nelqubat_row(table, k));
+    print_row(row);
 }
 
 /* Steps through one piece; 0 once the reader takes no more. */

@@ -61,13 +61,16 @@ static void feed(struct rest input, unsigned how)
     call_usual(CALL_FEED, input);
 }
 
-/* Saves, lists and, if so asked, goes on from what was saved. */
+/* Lists, looks for rows, saves and, if so asked, goes on from what was saved. */
 static void look(unsigned how)
 {
     struct rest none = {(const uint8_t *)"", 0};
-    struct call c = usual_call(CALL_LINE);
-    for (c.k = 0; c.k < 4; c.k++)
+    struct call c = usual_call(CALL_LINE), find = usual_call(CALL_FIND);
+    for (c.k = 0; c.k < 4; c.k++) {
         call(c, none);
+        find.k = nelqubat_row_id(nelqubat_row(pair.plain.table + GUARD_BYTES, c.k));
+        call(find, none);
+    }
     c.k = nelqubat_get(pair.plain.handle + GUARD_BYTES + NELQUBAT_HANDLE_ROWS, 8);
     call(c, none);
     c.k++;

@@ -127,7 +127,7 @@ enum {
 };
 
 /* The parts of an answer. `kind` and `taken` are those of a step, `written`
- * is that of save, write and line. */
+ * is that of save, write and line, `found` and `found_at` are those of find. */
 
 static inline unsigned nelqubat_refusal(uint32_t answer)
 {
@@ -156,18 +156,25 @@ static inline size_t nelqubat_written(uint32_t answer)
     return answer >> 8;
 }
 
+/* Whether a row was found. */
+static inline int nelqubat_found(uint32_t answer)
+{
+    return nelqubat_refusal(answer) == NELQUBAT_DONE && answer != 0;
+}
+
+/* The row that was found is nelqubat_row(table, k) for this k. */
+static inline size_t nelqubat_found_at(uint32_t answer)
+{
+    return (size_t)(answer >> 8) - 1;
+}
+
 /* The version of the library that is linked. */
 uint32_t nelqubat_version(void);
 
-/* Whether this header is of the same version: a program asks once, at its start.
- * Libraries that cannot tell are taken with NELQUBAT_WITHOUT_VERSION defined. */
+/* Whether this header is of the same version: a program asks once, at its start. */
 static inline int nelqubat_is_version(void)
 {
-#ifdef NELQUBAT_WITHOUT_VERSION
-    return 1;
-#else
     return nelqubat_version() == NELQUBAT_VERSION;
-#endif
 }
 
 /* The sizes above, as the library knows them. */
@@ -237,6 +244,16 @@ uint32_t nelqubat_write(const uint8_t *record, size_t record_n,
 uint32_t nelqubat_line(const uint8_t *handle, size_t handle_n,
                        const uint8_t *table, size_t table_n,
                        size_t k, uint8_t *out, size_t out_n);
+
+/* Looks for the row of an id, the first among the rows in use that has it:
+ *
+ *   a = nelqubat_find(handle, sizeof handle, table, sizeof table, id);
+ *   row = nelqubat_found_row(table, a);     NULL for none
+ *
+ * Answer: 256 times the row's place counted from 1, 0 where no row in use has
+ * the id; or 20 (handle, table, limits). */
+uint32_t nelqubat_find(const uint8_t *handle, size_t handle_n,
+                       const uint8_t *table, size_t table_n, uint32_t id);
 
 /* Big-endian numbers of 1 to 8 bytes. */
 
@@ -519,6 +536,12 @@ enum {
 static inline const uint8_t *nelqubat_row(const uint8_t *table, size_t k)
 {
     return table + k * NELQUBAT_ROW_BYTES;
+}
+
+/* The row that a find found, or NULL where it found none or was refused. */
+static inline const uint8_t *nelqubat_found_row(const uint8_t *table, uint32_t answer)
+{
+    return nelqubat_found(answer) ? nelqubat_row(table, nelqubat_found_at(answer)) : NULL;
 }
 
 static inline uint32_t nelqubat_row_id(const uint8_t *row)

@@ -165,6 +165,10 @@ int plain_write(const struct plain_message *m, uint8_t *out, size_t out_len,
 int plain_listing(const struct plain_reader *r, const uint8_t *table,
                   size_t table_len, char *out, size_t out_len, size_t *written);
 
+/* Looks for the row of an id: 0 or 20. `row` is null where none in use has it. */
+int plain_find(const struct plain_reader *r, const uint8_t *table,
+               size_t table_len, uint32_t id, const uint8_t **row);
+
 /* Whether two records say the same, field by field of their kind. */
 bool plain_same_message(const struct plain_message *a,
                         const struct plain_message *b);

@@ -245,6 +245,45 @@ static void strange_memory(void)
     EQUAL(b.r.rows, 2, "no row is added");
 }
 
+/* The row for an id, which is at place k; PLAIN_MAX_ROWS for none. */
+static void expect_found(int line, const struct bench *b, uint32_t id, size_t k)
+{
+    const uint8_t *row = b->table;
+    equal_at(line, (uint64_t)plain_find(&b->r, b->table, sizeof b->table, id, &row), 0, "find");
+    expect_at(line, row == (k < PLAIN_MAX_ROWS ? b->table + k * PLAIN_ROW_BYTES : NULL), "the row found");
+}
+
+static void rows_found(void)
+{
+    struct bench b;
+    const uint8_t *row;
+    start(&b);
+    expect_found(__LINE__, &b, 7, PLAIN_MAX_ROWS);
+    expect_found(__LINE__, &b, 0, PLAIN_MAX_ROWS); /* rows out of use are zeros */
+    feed(&b, LITERAL(LOGIN DIRECTORY(ID7, "Y") DIRECTORY(ID_MAX, "Y")));
+    expect_found(__LINE__, &b, 7, 0);
+    expect_found(__LINE__, &b, UINT32_MAX, 1);
+    expect_found(__LINE__, &b, 8, PLAIN_MAX_ROWS);
+    memcpy(b.table + PLAIN_ROW_BYTES, ID7, 4); /* the id twice: the first counts */
+    expect_found(__LINE__, &b, 7, 0);
+    b.table[3] = 8;
+    expect_found(__LINE__, &b, 7, 1);
+    b.r.rows = 1;
+    expect_found(__LINE__, &b, 7, PLAIN_MAX_ROWS);
+    EQUAL(plain_find(&b.r, b.table, sizeof b.table - 1, 8, &row), 20, "a table too short");
+    EXPECT(row == NULL, "no row of a table too short");
+    b.r.refusal = 13; /* one that stands changes nothing */
+    expect_found(__LINE__, &b, 8, 0);
+    b.r.refusal = 17;
+    EQUAL(plain_find(&b.r, b.table, sizeof b.table, 8, &row), 20, "a limit broken");
+    start(&b);
+    feed(&b, LITERAL(LOGIN));
+    fill_up(&b);
+    expect_found(__LINE__, &b, 1000, 0);
+    expect_found(__LINE__, &b, 1255, 255);
+    expect_found(__LINE__, &b, 1256, PLAIN_MAX_ROWS);
+}
+
 /* Only rows in use are looked at: what lies past them is no row. */
 static void rows_out_of_use(void)
 {
@@ -562,6 +601,7 @@ void test_reading(void)
     rows_change();
     directory_replaces();
     strange_memory();
+    rows_found();
     rows_out_of_use();
     sides_in_strange_memory();
     packet_refusals();

@@ -190,7 +190,8 @@ def _find_library():
     return os.environ.get("NELQUBAT_SO") or next((p for p in places if os.path.exists(p)), "libnelqubat.so")
 
 
-# How many memories each call is lent, a pointer and a count for each; a line also has its number before the last.
+# How many memories each call is lent, a pointer and a count for each. A line also has its number before the last, and a find the id
+# behind them.
 _LENT = {"start": 2, "step": 4, "save": 3, "restore": 3, "read": 2, "write": 2}
 
 
@@ -202,7 +203,10 @@ def _load():
         getattr(library, "nelqubat_" + name).restype = ctypes.c_uint32
     library.nelqubat_line.argtypes = memory * 2 + [ctypes.c_size_t] + memory
     library.nelqubat_line.restype = ctypes.c_uint32
-    if hasattr(library, "nelqubat_version") and library.nelqubat_version() != VERSION:
+    library.nelqubat_find.argtypes = memory * 2 + [ctypes.c_uint32]
+    library.nelqubat_find.restype = ctypes.c_uint32
+    library.nelqubat_version.restype = ctypes.c_uint32
+    if library.nelqubat_version() != VERSION:
         raise ImportError(f"the library is of version {library.nelqubat_version()}, this module of {VERSION}")
     for name, count in (("handle", HANDLE_BYTES), ("table", TABLE_BYTES), ("record", RECORD_BYTES)):
         size = getattr(library, f"nelqubat_{name}_size")
@@ -344,12 +348,10 @@ class Reader:
 
     def row(self, ident):
         """A copy of the row for an instrument, or None."""
-        wanted = ident.to_bytes(4, "big")
-        for k in range(self._head.rows):
-            data = self._row_bytes(k)
-            if data[:4] == wanted:
-                return _row(data)
-        return None
+        if not 0 <= ident < 1 << 32:
+            raise OverflowError(f"{ident} is no id of four bytes")
+        place = _done(_library.nelqubat_find(*self._both, ident))
+        return _row(self._row_bytes(place - 1)) if place else None
 
     def _row_bytes(self, k):
         return ctypes.string_at(ctypes.addressof(self._table) + k * ROW_BYTES, ROW_BYTES)

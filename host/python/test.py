@@ -105,6 +105,33 @@ class Sessions(unittest.TestCase):
         self.assertIsNone(reader.row(1))
         self.assertEqual(len(reader.rows()), len(text(SAMPLES, "whole.txt").splitlines()) - 2)
 
+    def test_found(self):
+        reader = nelqubat.Reader()
+        self.assertIsNone(reader.row(0))
+        for _ in reader.read(os.path.join(SAMPLES, "whole.soup")):
+            pass
+        rows = reader.rows()
+        self.assertGreater(len(rows), 1)
+        for row in rows:
+            self.assertEqual(reader.row(row.id), row)
+        for ident in set(range(2)) | {2 ** 32 - 1} | {row.id ^ 1 << 31 for row in rows}:
+            self.assertIsNone(reader.row(ident))
+        for ident in (-1, 2 ** 32, 2 ** 32 + rows[0].id):
+            self.assertRaises(OverflowError, reader.row, ident)
+
+    def test_first_found(self):
+        reader = nelqubat.Reader()
+        for _ in reader.read(os.path.join(SAMPLES, "whole.soup")):
+            pass
+        first, second = reader.rows()[:2]
+        reader._table[nelqubat.ROW_BYTES:nelqubat.ROW_BYTES + 4] = reader._table[:4]
+        self.assertEqual(reader.row(first.id), first)
+        self.assertIsNone(reader.row(second.id))
+        reader._handle[42] = 2
+        with self.assertRaises(nelqubat.Refused) as caught:
+            reader.row(first.id)
+        self.assertEqual(caught.exception.number, 20)
+
     def test_resumed(self):
         session = text(SAMPLES, "whole.soup")
         for stop in (1, 300, 610):

@@ -49,8 +49,8 @@ use Rattle.reader.specs.Deliver.{Table, tableOf, Said, said, settledBy, heard, 
 use Rattle.reader.specs.View.{readerWith, stateOf, memoryIn, heldIn}
 use Rattle.reader.specs.Calls.{placesBy}
 use Rattle.reader.specs.declared.Reader.{Reader}
-use Rattle.abi.specs.Host.{readerIn, handleBytes, headIn}
-use Rattle.abi.proofs.Rounds.{reader-back}
+use Rattle.nelqubat.specs.Host.{readerIn, handleBytes, headIn}
+use Rattle.nelqubat.proofs.Rounds.{reader-back}
 use Rattle.demands.specs.Sound.{SoundSession, Ours}
 use Rattle.demands.proofs.Kept.{Kept, kept-ours}
 use Rattle.demands.proofs.View.{held-of}

@@ -25,8 +25,8 @@ use Rattle.reader.specs.View.{sessionOf, heldOf, stateOf, heldIn, readyOf}
 use Rattle.reader.specs.Saving as readers
 use Rattle.reader.specs.Saving.{headerOf, Written, writtenOf, writtenBy, saveAll, restoreNumber, lineOf, restoreAll}
 use Rattle.reader.specs.declared.Restored.{Restored}
-use Rattle.abi.specs.Host.{readerIn, headIn, Left, left, unheld, restoredAs, restoreHost, savedNumber, savedAs, saveHost, HostSaves, HostRestores}
-use Rattle.abi.proofs.Heads.{head-in}
+use Rattle.nelqubat.specs.Host.{readerIn, headIn, Left, left, unheld, restoredAs, restoreHost, savedNumber, savedAs, saveHost, HostSaves, HostRestores}
+use Rattle.nelqubat.proofs.Heads.{head-in}
 use Rattle.demands.specs.Stopped.{StoppedAt, GoesOn}
 use Rattle.demands.proofs.Kept.{ours-within}
 use Rattle.demands.proofs.Saved.{ours-saved, comes-back}

@@ -27,7 +27,7 @@ use Rattle.reader.specs.View.{sessionOf, heldOf, stateOf, Seen, seen, memoryIn,
 use Rattle.reader.specs.Calls.{freshOn, verdictNumber, startAll, Starting, stepAll, placesBy, placesAfter}
 use Rattle.reader.specs.declared.Started.{Started}
 use Rattle.reader.specs.declared.StartAnswer.the-variants.{Ready}
-use Rattle.abi.specs.Host.{readerIn, handleBytes, noHeld, headIn, Left, left, unheld, startedAs, startHost, Gone, goneTo, movedBy, toldEvent, told, Stepped, hostStepped, steppedAs, stepHost, HostSteps, HostStarts}
+use Rattle.nelqubat.specs.Host.{readerIn, handleBytes, noHeld, headIn, Left, left, unheld, startedAs, startHost, Gone, goneTo, movedBy, toldEvent, told, Stepped, hostStepped, steppedAs, stepHost, HostSteps, HostStarts}
 use Rattle.demands.specs.Sound.{begin}
 use Rattle.demands.proofs.Bytes.{bytes-left}
 use Rattle.demands.proofs.Kept.{Kept, ours-kept, ours-within, step-kept}

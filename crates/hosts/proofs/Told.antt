@@ -51,7 +51,7 @@ use Rattle.record.proofs.Typed.{roomy}
 use Rattle.record.proofs.Rounds.{take-back}
 use Rattle.reader.specs.Refusals.{standing}
 use Rattle.reader.specs.Deliver.{Table, tableOf, Said, said, settledBy, heard, deliver}
-use Rattle.abi.specs.Host.{loginBytes, toldEvent, told}
+use Rattle.nelqubat.specs.Host.{loginBytes, toldEvent, told}
 use Rattle.demands.specs.Sound.{SoundSession}
 use Rattle.demands.proofs.Bytes.{bytes-append, frame-bytes}
 use Rattle.demands.proofs.Kept.{Kept, packet-sound}

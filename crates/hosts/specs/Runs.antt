@@ -9,7 +9,7 @@ use lib.ListN.{drop}
 use Rattle.packet.specs.Session.{Event}
 use Rattle.handle.specs.Handle.{headOf}
 use Rattle.reader.specs.Deliver.{Said}
-use Rattle.abi.specs.Host.{HostSteps}
+use Rattle.nelqubat.specs.Host.{HostSteps}
 use Rattle.hosts.specs.Events.{takenIn, eventsIn}
 
 -- ---- A RUN

@@ -1,27 +1,27 @@
 // Demand 3 for a host in C, as theorems over the promises of its calls: see specs/ and proofs/. The code here is such a host's own calls, so that
 // what the theorems ask of a call is what the library promises.
-ghost use Rattle.abi.specs.Host.{HostStarts, HostSteps, HostSaves, HostRestores};
+ghost use Rattle.nelqubat.specs.Host.{HostStarts, HostSteps, HostSaves, HostRestores};
 
 pub fn start(handle: &mut [u8], table: &mut [u8]) -> u32
     ensures { λ r. ⌜ HostStarts (now (handle .entry)) (now (table .entry)) r (now (handle .exit)) (now (table .exit)) ⌝ }
 {
-    abi::nelqubat_start(handle, table)
+    nelqubat::nelqubat_start(handle, table)
 }
 
 pub fn step(handle: &mut [u8], table: &mut [u8], piece: &[u8], event: &mut [u8]) -> u32
     ensures { λ r. ⌜ HostSteps (now (handle .entry)) (now (table .entry)) (now (piece .entry)) (now (event .entry)) r (now (handle .exit)) (now (table .exit)) (now (event .exit)) ⌝ }
 {
-    abi::nelqubat_step(handle, table, piece, event)
+    nelqubat::nelqubat_step(handle, table, piece, event)
 }
 
 pub fn save(handle: &[u8], table: &[u8], out: &mut [u8]) -> u32
     ensures { λ r. ⌜ HostSaves (now (handle .entry)) (now (table .entry)) (now (out .entry)) r (now (out .exit)) ⌝ }
 {
-    abi::nelqubat_save(handle, table, out)
+    nelqubat::nelqubat_save(handle, table, out)
 }
 
 pub fn restore(handle: &mut [u8], table: &mut [u8], image: &[u8]) -> u32
     ensures { λ r. ⌜ HostRestores (now (handle .entry)) (now (table .entry)) (now (image .entry)) r (now (handle .exit)) (now (table .exit)) ⌝ }
 {
-    abi::nelqubat_restore(handle, table, image)
+    nelqubat::nelqubat_restore(handle, table, image)
 }

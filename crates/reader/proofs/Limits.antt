@@ -20,7 +20,7 @@ use Rattle.packet.specs.declared.Framing.the-variants.{Short, BadLength, Whole}
 use Rattle.packet.proofs.Frame.{short-there, bad-there, whole-there}
 use Rattle.packet.proofs.Rules.{both, and-both, not-call, not-not-call, never}
 use Rattle.handle.specs.declared.Head.{Head}
-use Rattle.table.specs.Memory.{mostRows, tableSize}
+use Rattle.table.specs.Memory.{rowsFit}
 use Rattle.table.specs.Board as tables
 use Rattle.table.specs.Board.{fits, outcome, startOf}
 use Rattle.table.specs.declared.Applied.{Applied}
@@ -90,34 +90,31 @@ module _ (h : Head) (held memory : List ℕ) where
     unfolding lentWithin
     lent-as e = rw (eq-eqb (length held) heldSize l) e
 
-    pub within-size : (length memory ≡ tableSize → ⊥) → false ≡ lentWithin h held memory
-    unfolding withinLimits fits
-    within-size n = lent-as (rw (ne-eqb (length memory) tableSize n))
+    module _ {a : Bool} (e : a ≡ rowsFit (h .board .rows) memory) where
+      pub within-fit : not a ≡ true → false ≡ lentWithin h held memory
+      unfolding withinLimits fits
+      within-fit f = lent-as (rw (not-call a (rowsFit (h .board .rows) memory) e f))
 
-    pub within-rows : length memory ≡ tableSize → mostRows < h .board .rows → false ≡ lentWithin h held memory
-    unfolding withinLimits fits
-    within-rows e n = lent-as (rw (eq-eqb (length memory) tableSize e, lt-leb (h .board .rows) mostRows n))
+      module _ (n : not a ≡ false) where
+        fitting : fits (h .board) memory ≡ true
+        unfolding fits
+        fitting = not-not-call a (rowsFit (h .board .rows) memory) e n
 
-    module _ (e : length memory ≡ tableSize) (n : h .board .rows ≤ mostRows) where
-      fitting : fits (h .board) memory ≡ true
-      unfolding fits
-      fitting = rw (eq-eqb (length memory) tableSize e, le-leb (h .board .rows) mostRows n)
+        pub within-number : {b : Bool} → b ≡ numberInRange (h .line .next) → not b ≡ true → false ≡ lentWithin h held memory
+        unfolding withinLimits
+        within-number {b} f g = lent-as (rw (fitting, not-call b (numberInRange (h .line .next)) f g))
 
-      pub within-number : {a : Bool} → a ≡ numberInRange (h .line .next) → not a ≡ true → false ≡ lentWithin h held memory
-      unfolding withinLimits
-      within-number {a} f g = lent-as (rw (fitting, not-call a (numberInRange (h .line .next)) f g))
+        pub within-held : {b c : Bool} → b ≡ numberInRange (h .line .next) → not b ≡ false → c ≡ holdsUnfinished r → not c ≡ true
+            → false ≡ lentWithin h held memory
+        unfolding withinLimits
+        within-held {b} {c} f g i j =
+            lent-as (rw (fitting, not-not-call b (numberInRange (h .line .next)) f g, not-call c (holdsUnfinished r) i j))
 
-      pub within-held : {a b : Bool} → a ≡ numberInRange (h .line .next) → not a ≡ false → b ≡ holdsUnfinished r → not b ≡ true
-          → false ≡ lentWithin h held memory
-      unfolding withinLimits
-      within-held {a} {b} f g i j =
-          lent-as (rw (fitting, not-not-call a (numberInRange (h .line .next)) f g, not-call b (holdsUnfinished r) i j))
-
-      pub within-stands : {a b s : Bool} → a ≡ numberInRange (h .line .next) → not a ≡ false → b ≡ holdsUnfinished r → not b ≡ false
-          → s ≡ standing (h .refusal) → s ≡ lentWithin h held memory
-      unfolding withinLimits
-      within-stands {a} {b} f g i j k =
-          lent-as (rw (fitting, not-not-call a (numberInRange (h .line .next)) f g, not-not-call b (holdsUnfinished r) i j) k)
+        pub within-stands : {b c s : Bool} → b ≡ numberInRange (h .line .next) → not b ≡ false → c ≡ holdsUnfinished r → not c ≡ false
+            → s ≡ standing (h .refusal) → s ≡ lentWithin h held memory
+        unfolding withinLimits
+        within-stands {b} {c} f g i j k =
+            lent-as (rw (fitting, not-not-call b (numberInRange (h .line .next)) f g, not-not-call c (holdsUnfinished r) i j) k)
 
 -- lent places that keep the limits are as many as a handle has, and the handle keeps its own
 pub lent-within : (h : Head) (held memory : List ℕ) → lentWithin h held memory ≡ true

@@ -281,10 +281,7 @@ pub fn within_limits(head: Head, held: &[u8], table: &[u8]) -> bool
     if held.len() != HELD_SIZE {
         return false;
     }
-    if table.len() != table::TABLE_SIZE {
-        return false;
-    }
-    if table::MOST_ROWS < head.board.rows {
+    if !table::rows_fit(head.board.rows, table) {
         return false;
     }
     if !field::limits::number_in_range(head.line.next) {

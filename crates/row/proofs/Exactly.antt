@@ -11,7 +11,7 @@ use Rattle.field.specs.Bytes.{part, digits, be}
 use Rattle.field.proofs.Parts.{part-part}
 use Rattle.field.proofs.Numbers.{value-digits}
 use Rattle.message.specs.Layout.{values, tiled, bytesFor, Fit}
-use Rattle.message.specs.Letters.{instrumentRows, instrumentFields}
+use Rattle.message.specs.Letters.{instrumentRows, instrumentFields, entrySize}
 use Rattle.message.specs.declared.Side.{Side}
 use Rattle.message.specs.declared.Side.the-variants.{Bid, Ask}
 use Rattle.message.specs.declared.LongNumbers.{LongNumbers}
@@ -20,7 +20,7 @@ use Rattle.message.specs.declared.Directory.{Directory}
 use Rattle.message.specs.declared.TradingAction.{TradingAction}
 use Rattle.message.specs.declared.Texts.{Texts}
 use Rattle.message.proofs.Layouts.{fields-length}
-use Rattle.row.specs.Fields.{rowSize, entrySize, entryOf, idOf, sidesOf, sideAt, other, numbersOf}
+use Rattle.row.specs.Fields.{rowSize, entryOf, idOf, sidesOf, sideAt, other, numbersOf}
 use Rattle.row.specs.Changes.{Change, changed, Place, place, places, outside, entryChange, conditionChange, stampChange, purgeFor, sidesChanges, directoryChanges, newRow, actionChanges, quoteChanges, directoryPlaces, actionPlaces, quotePlaces}
 use Rattle.row.specs.declared.Sides.{Sides}
 use Rattle.row.specs.declared.Sides.the-variants.{One, Both}

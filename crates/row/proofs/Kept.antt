@@ -15,7 +15,7 @@ use Rattle.field.proofs.Bools.{both-left, both-right}
 use Rattle.field.proofs.Parts.{part-part}
 use Rattle.field.proofs.Numbers.{value-digits}
 use Rattle.message.specs.Layout.{values, keepsAll, bytesFor, tiled, from, Fit}
-use Rattle.message.specs.Letters.{listed, states, conditions, stampRows, stampFields, longNumbersRows, longNumbersFields, instrumentRows, instrumentFields, entryRows}
+use Rattle.message.specs.Letters.{listed, states, conditions, stampRows, stampFields, longNumbersRows, longNumbersFields, instrumentRows, instrumentFields, entryRows, entrySize}
 use Rattle.message.specs.declared.Stamp.{Stamp}
 use Rattle.message.specs.declared.Side.{Side}
 use Rattle.message.specs.declared.Side.the-variants.{Bid, Ask}
@@ -25,7 +25,7 @@ use Rattle.message.specs.declared.TradingAction.{TradingAction}
 use Rattle.message.specs.declared.Texts.{Texts}
 use Rattle.message.proofs.Layouts.{values-back, values-in-part, rowsIn}
 use Rattle.message.proofs.Typed.{listed-below}
-use Rattle.row.specs.Fields.{rowSize, entrySize, entryOf, other, stateOf, conditionOf, sidesOf, sideAt, numbersOf, priceOf, timeOf, hasSeen, seenWith}
+use Rattle.row.specs.Fields.{rowSize, entryOf, other, stateOf, conditionOf, sidesOf, sideAt, numbersOf, priceOf, timeOf, hasSeen, seenWith}
 use Rattle.row.specs.Changes.{Change, change, changed, places, outside, entryChange, stateChange, conditionChange, seenChange, numbersChange, stampChange, purge, purgeFor, sidesChanges, directoryChanges, newRow, actionChanges}
 use Rattle.row.specs.Rules.{entryKeeps, marksKeep, sideKeeps, bareKeeps, stampKeeps, spareKeeps, rowKeeps}
 use Rattle.row.specs.declared.Sides.{Sides}

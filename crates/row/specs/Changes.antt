@@ -8,7 +8,7 @@ use lib.ListN.{replicate}
 use Rattle.field.specs.Bytes.{overlay, bytesBe, same}
 use Rattle.field.specs.Limits.{tenThousandths}
 use Rattle.message.specs.Layout.{bytesFor}
-use Rattle.message.specs.Letters.{stampRows, stampFields, longNumbersRows, longNumbersFields, instrumentRows, instrumentFields}
+use Rattle.message.specs.Letters.{stampRows, stampFields, longNumbersRows, longNumbersFields, instrumentRows, instrumentFields, entrySize}
 use Rattle.message.specs.declared.Stamp.{Stamp}
 use Rattle.message.specs.declared.Side.the-variants.{Bid, Ask}
 use Rattle.message.specs.declared.ShortNumbers.{ShortNumbers}
@@ -17,7 +17,7 @@ use Rattle.message.specs.declared.Instrument.{Instrument}
 use Rattle.message.specs.declared.Directory.{Directory}
 use Rattle.message.specs.declared.TradingAction.{TradingAction}
 use Rattle.message.specs.declared.Texts.{Texts}
-use Rattle.row.specs.Fields.{rowSize, entrySize, instrumentIn, textsIn, sideAt, sidesOf, seenWith}
+use Rattle.row.specs.Fields.{rowSize, instrumentIn, textsIn, sideAt, sidesOf, seenWith}
 use Rattle.row.specs.declared.Sides.{Sides}
 use Rattle.row.specs.declared.Sides.the-variants.{One, Both}
 use Rattle.row.specs.declared.Quote.{Quote}

@@ -6,7 +6,7 @@ use mathlib.Core.List.{List}
 use lib.Dec.{eqb}
 use Rattle.field.specs.Bytes.{part, be}
 use Rattle.message.specs.Layout.{values}
-use Rattle.message.specs.Letters.{entryRows, instrumentOf, textsOf}
+use Rattle.message.specs.Letters.{entryRows, instrumentOf, textsOf, entrySize}
 use Rattle.message.specs.declared.Instrument.{Instrument}
 use Rattle.message.specs.declared.Texts.{Texts}
 use Rattle.message.specs.declared.Side.{Side}
@@ -17,10 +17,7 @@ rowSize = 124
 
 -- ---- the places of document 01's table of a row
 
--- 0-51: bytes 11-62 of the latest directory, so many
-abbrev pub entrySize : ℕ
-entrySize = 52
-
+-- 0-51: bytes 11-62 of the latest directory
 abbrev pub entryOf : List ℕ → List ℕ
 entryOf r = part r 0 entrySize
 

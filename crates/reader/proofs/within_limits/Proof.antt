@@ -1,7 +1,7 @@
 -- `reader::within_limits` meets its contract.
 -- Assumes nothing.
 use borrow.Author.Needs.{needs}
-use Rattle.reader.proofs.Limits.{within-places, within-size, within-rows, within-number, within-held, within-stands}
+use Rattle.reader.proofs.Limits.{within-places, within-fit, within-number, within-held, within-stands}
 use Rattle.reader.proofs.within_limits.Statement.{statement}
 use Rattle.reader.proofs.within_limits.Tie as tie
 
@@ -9,21 +9,18 @@ returns : tie.Need-returns
 returns c = search within-places
 
 returns-2 : tie.Need-returns-2
-returns-2 c = search within-size
+returns-2 c = search within-fit
 
 returns-3 : tie.Need-returns-3
-returns-3 c = search within-rows
+returns-3 c = search within-number
 
 returns-4 : tie.Need-returns-4
-returns-4 c = search within-number
+returns-4 c = search within-held
 
 returns-5 : tie.Need-returns-5
-returns-5 c = search within-held
-
-returns-6 : tie.Need-returns-6
-returns-6 c = search within-stands
+returns-5 c = search within-stands
 
 pub within-limits-spec : {M : Type 1} → statement M
 within-limits-spec =
     tie.close
-    (tie.spec returns returns-2 returns-3 (λ c κs. search needs) returns-4 (λ c κs. search needs) returns-5 (λ c κs. search needs) returns-6)
+    (tie.spec returns (λ c κs. search needs) returns-2 (λ c κs. search needs) returns-3 (λ c κs. search needs) returns-4 (λ c κs. search needs) returns-5)

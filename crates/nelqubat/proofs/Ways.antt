@@ -1,0 +1,451 @@
+-- The ways through the calls: a law for each.
+-- Assumes nothing.
+use mathlib.Core.Path.{_≡_, refl, sym, ap, _∙_, subst}
+use mathlib.Core.Bool.{Bool, true, false, not, cond, _&&_}
+use mathlib.Core.List.{List, [], _++_}
+use Prim.Native.Nat.{ℕ, _+_, _*_, _≤_, _<_}
+use native.Mathlib.Omega.{arith}
+use borrow.Author.Tests.{eqb-true, eq-eqb, ne-eqb, le-leb, lt-leb, leb-true}
+use lib.Dec.{eqb, leb}
+use lib.ListN.{length, drop, take, replicate, length-replicate}
+use lib.Seq.{length-take-le, take-at}
+use Rattle.field.specs.Bytes.{part, overlay, bytesBe}
+use Rattle.field.specs.Limits.{numberInRange}
+use Rattle.field.proofs.Parts.{part-length, part-whole, overlay-none, overlay-whole, overlay-next}
+use Rattle.field.proofs.Numbers.{digits-length}
+use Rattle.field.proofs.Bools.{both-left, both-right}
+use Rattle.packet.specs.Stream as stream
+use Rattle.packet.specs.Stream.{State, stepOf}
+use Rattle.packet.specs.Session.{Session, Event, soupBinTCP}
+use Rattle.packet.specs.Frame.{heldSize}
+use Rattle.packet.proofs.Rules.{and-both, not-call, not-not-call, never}
+use Rattle.packet.proofs.Step.{step-most}
+use Rattle.handle.specs.Handle.{headSize, handleSize, isHandle, headOf, headBytes}
+use Rattle.handle.specs.declared.Head.{Head}
+use Rattle.handle.proofs.Rounds.{HeadFits, handle-length}
+use Rattle.record.specs.Places.{recordSize}
+use Rattle.record.specs.Record.{Answered, answered, recordBytes}
+use Rattle.reader.specs.Deliver.{Table, Said, deliver}
+use Rattle.reader.specs.Refusals.{refusalNumber}
+use Rattle.reader.specs.View.{Seen, sessionOf, readerWith, headPart, heldOf, stateAt, stateOf, seenOf, seen, eventOf, answerOf}
+use Rattle.reader.specs.Limits.{withinLimits, lentWithin}
+use Rattle.reader.specs.Calls.{Begun, begunOf, startAll, Starting, startNumber, Lent, lentOf, lentBy, lentAll, LentStepping, stepAll, unfit}
+use Rattle.reader.specs.Saving.{Came, restoreNumber, Restores, restoreAll, headerOf, Written, writtenOf, writtenBy, Saves, saveAll}
+use Rattle.reader.proofs.Lent.{lent-is, limits-of}
+use Rattle.reader.specs.declared.Reader.{Reader}
+use Rattle.reader.specs.declared.Moved.{Moved}
+use Rattle.reader.specs.declared.Started.{Started}
+use Rattle.reader.specs.declared.Restored.{Restored}
+use Rattle.reader.specs.declared.Refusal.{Refusal}
+use Rattle.reader.specs.declared.Texts.{Texts}
+use Rattle.reader.specs.declared.Event as code
+use Rattle.reader.specs.declared.Event.the-variants as event
+use Rattle.reader.specs.declared.StepAnswer.{StepAnswer}
+use Rattle.reader.specs.declared.StepAnswer.the-variants as answer
+use Rattle.reader.specs.declared.StartAnswer.{StartAnswer}
+use Rattle.reader.specs.declared.StartAnswer.the-variants as started
+use Rattle.block.specs.Block.{blockSize}
+use Rattle.image.specs.Header as headers
+use Rattle.image.specs.Save as images
+use Rattle.image.specs.Save.{saving, sizeFor, saveOf}
+use Rattle.image.specs.Shape.{blocksFor, pagesFor, mostBlocks}
+use Rattle.image.specs.declared.Header.{Header}
+use Rattle.image.specs.declared.Refusal as image
+use Rattle.image.proofs.Rounds.{stored}
+use Rattle.image.specs.declared.Saved.{Saved}
+use Rattle.image.specs.declared.Saved.the-variants as saved
+use Rattle.row.specs.Fields.{rowSize}
+use Rattle.table.specs.Memory.{mostRows, tableSize, rowsFit, Fitting, rowFor}
+use Rattle.table.specs.declared.Found.{Found}
+use Rattle.table.specs.declared.Found.the-variants.{At, Nothing}
+use Rattle.table.proofs.Search.{found}
+use Rattle.table.proofs.Ways.{rows-fitting}
+use Rattle.table.specs.Board.{fits}
+use Rattle.message.specs.declared.Message.{Message}
+use Rattle.listing.specs.Lines.{lineIn, lineSize, endingOf, lineOf, lineWith, noLine, shownOf}
+use Rattle.listing.specs.declared.Shown.the-variants as shown
+use Rattle.listing.specs.declared.Text.{Text}
+use Rattle.listing.specs.declared.Ending.{Ending}
+use Rattle.nelqubat.specs.Host.{readerIn, handleBytes, noHeld, headIn, left, unheld, startedAs, startHost, StartsOn, restoredAs, restoreHost, RestoresOn, loginBytes, toldEvent, told, Gone, goneTo, movedBy, movedOf, Follows, hostStepped, steppedAs, stepHost, savedNumber, savedAs, SavedFits, saveHost, lineTo, shownTo, hostWithin, lineHost, FoundFits, foundNumber, findHost}
+use Rattle.nelqubat.proofs.Heads.{head-in, memory-in, put-over}
+use Rattle.nelqubat.proofs.Rounds.{reader-back}
+
+-- ---- a reader that holds nothing, over a handle
+
+unheld-as : (r : Reader) (memory handle : List ℕ) (h : Head) (n : ℕ) → h ≡ headPart r → handle ≡ handleBytes h noHeld
+    → left n handle memory ≡ unheld n (stateOf r memory) (r .used)
+unheld-as r memory handle h n e f =
+    ap (λ (x : List ℕ). left n x memory) (f ∙ ap (λ (x : Head). handleBytes x noHeld) (e ∙ sym (head-in r memory)))
+    ∙ ap (left n (handleBytes (headIn (stateOf r memory) (r .used)) noHeld)) (sym (memory-in r memory))
+
+-- and it is that reader
+unheld-on : (r : Reader) (memory handle : List ℕ) (h : Head) → h ≡ headPart r → handle ≡ handleBytes h noHeld → HeadFits h → r .used ≡ 0
+    → stateOf (readerIn handle) memory ≡ stateOf r memory
+unheld-on r memory handle h e f fits none =
+    let unused : heldOf (readerWith (headPart r) noHeld) ≡ heldOf r = rw none in
+    ap (λ (x : List ℕ). stateOf (readerIn x) memory) f
+    ∙ ap (λ (x : Reader). stateOf x memory) (reader-back h noHeld fits (length-replicate {A = ℕ} heldSize 0) ∙ ap (λ (x : Head). readerWith x noHeld) e)
+    ∙ ap (λ (held : List ℕ). stateAt (r .refusal) (r .ended) (sessionOf (r .line) (r .board) memory) held) unused
+
+-- ---- starting and restoring
+
+module _ (handle table : List ℕ) where
+  pub start-none : {A : Type 0} → (length handle ≡ handleSize → ⊥) → length handle ≡ handleSize → A
+  start-none d l = absurd (d l)
+
+  pub start-on : (handle′ table′ : List ℕ) (s : Started) (h : Head) → HeadFits h → Starting table s table′ → h ≡ headPart (s .reader) → handle′ ≡ handleBytes h noHeld
+      → StartsOn handle table handle′ table′
+  unfolding startAll
+  start-on handle′ table′ s h fits e f g l =
+      unheld-on (s .reader) table′ handle′ h f g fits (ap (λ (b : Begun). b .used) e) ∙ ap (λ (b : Begun). b .state) e
+
+  pub restore-on : (image handle′ table′ : List ℕ) (r : Restored) (h : Head) → HeadFits h → Restores image table r table′ → h ≡ headPart (r .reader)
+      → handle′ ≡ handleBytes h noHeld → RestoresOn handle table image handle′ table′
+  unfolding restoreAll
+  restore-on image handle′ table′ r h fits e f g l =
+      unheld-on (r .reader) table′ handle′ h f g fits (ap (λ (b : Came). b .used) e) ∙ ap (λ (b : Came). b .state) e
+
+  pub start-unfit : (length handle ≡ handleSize → ⊥) → left 20 handle table ≡ startHost handle table
+  unfolding startHost
+  start-unfit d = rw (ne-eqb (length handle) handleSize d)
+
+  pub start-goes : (handle′ table′ : List ℕ) (s : Started) (h : Head) {n : ℕ} → length handle ≡ handleSize → Starting table s table′ → h ≡ headPart (s .reader)
+      → handle′ ≡ handleBytes h noHeld → n ≡ startNumber (s .answer) → left n handle′ table′ ≡ startHost handle table
+  unfolding startHost
+  start-goes handle′ table′ s h l e f g i =
+      rw (eq-eqb (length handle) handleSize l, i) (unheld-as (s .reader) table′ handle′ h (startNumber (s .answer)) f g ∙ ap startedAs e)
+
+  pub restore-unfit : (image : List ℕ) → (length handle ≡ handleSize → ⊥) → left 20 handle table ≡ restoreHost handle table image
+  unfolding restoreHost
+  restore-unfit image d = rw (ne-eqb (length handle) handleSize d)
+
+  pub restore-goes : (image handle′ table′ : List ℕ) (r : Restored) (h : Head) {n : ℕ} → length handle ≡ handleSize → Restores image table r table′ → h ≡ headPart (r .reader)
+      → handle′ ≡ handleBytes h noHeld → n ≡ restoreNumber (r .verdict) → left n handle′ table′ ≡ restoreHost handle table image
+  unfolding restoreHost
+  restore-goes image handle′ table′ r h l e f g i =
+      rw (eq-eqb (length handle) handleSize l, i) (unheld-as (r .reader) table′ handle′ h (restoreNumber (r .verdict)) f g ∙ ap restoredAs e)
+
+-- ---- a step of a handle where it lies
+
+abbrev goneWith : Lent → Gone
+goneWith l = goneTo (l .call) (l .held)
+
+-- the places behind the head are as many as a handle has
+as-reader : (handle table piece : List ℕ) (h : Head) → length handle ≡ handleSize → let held = part handle headSize heldSize in
+    lentBy held (h .used) piece (lentAll h held table piece) ≡ lentBy held (h .used) piece (stepAll (readerWith h held) table piece)
+as-reader handle table piece h l =
+    let held = part handle headSize heldSize in
+    ap (lentBy held (h .used) piece) (lent-is h held table piece (part-length handle headSize heldSize (omega (arith, l))))
+
+pub moves : (handle table piece : List ℕ) (h : Head) (m : Moved) (held first handle′ table′ : List ℕ) → length handle ≡ handleSize → length held ≡ heldSize
+    → length (m .head .line .session) ≡ 10 → h ≡ headOf handle → LentStepping h (part handle headSize heldSize) table piece m held table′
+    → first ≡ overlay handle headSize held → handle′ ≡ overlay first 0 (headBytes (m .head))
+    → movedOf m handle′ table′ ≡ movedBy handle table piece
+unfolding movedBy
+moves handle table piece h m held first handle′ table′ l k ten e f g i =
+    let r = readerWith (m .head) held in
+    ap (λ (x : List ℕ). movedOf m x table′)
+    (put-over (m .head) handle held first handle′ ten l k g i ∙ ap (λ (x : Head). handleBytes x held) (sym (head-in r table′)))
+    ∙ ap (movedOf m (handleBytes (headIn (stateOf r table′) (r .used)) held)) (sym (memory-in r table′))
+    ∙ ap goneWith (rw e at (f ∙ as-reader handle table piece h l))
+
+pub moves-on : (handle table piece : List ℕ) (h : Head) (m : Moved) (held first handle′ table′ : List ℕ) → length handle ≡ handleSize → length held ≡ heldSize
+    → HeadFits (m .head) → h ≡ headOf handle → LentStepping h (part handle headSize heldSize) table piece m held table′
+    → first ≡ overlay handle headSize held → handle′ ≡ overlay first 0 (headBytes (m .head))
+    → Follows handle table piece handle′ table′
+moves-on handle table piece h m held first handle′ table′ l k fits e f g i =
+    ap (λ (x : List ℕ). stateOf (readerIn x) table′) (put-over (m .head) handle held first handle′ (fits .session) l k g i)
+    ∙ ap (λ (r : Reader). stateOf r table′) (reader-back (m .head) held fits k)
+    ∙ ap (λ (x : Lent). x .call .step .state) (f ∙ as-reader handle table piece h l)
+    ∙ ap (λ (x : Head). stepAll (readerWith x (part handle headSize heldSize)) table piece .step .state) e
+
+-- a step takes no more than a packet
+step-few : (r : Reader) (memory piece : List ℕ) → stepAll r memory piece .step .taken ≤ heldSize
+unfolding stepAll
+step-few r memory piece = by (withinLimits r memory)
+  where
+    by : (b : Bool) → cond b (seen (stepOf (soupBinTCP deliver) (stateOf r memory) piece)) (unfit r memory) .step .taken ≤ heldSize
+    by true = step-most (soupBinTCP deliver) (stateOf r memory) piece
+    by false = omega arith
+
+pub taken-few : (handle table piece handle′ table′ : List ℕ) (m : Moved) → movedOf m handle′ table′ ≡ movedBy handle table piece → m .taken ≤ heldSize
+unfolding movedBy
+taken-few handle table piece handle′ table′ m e = rw (ap (λ (g : Gone). g .taken) e) (step-few (readerIn handle) table piece)
+
+-- ---- a step
+
+module _ (handle table piece event : List ℕ) where
+  pub step-event : (length event ≡ recordSize → ⊥) → hostStepped 2068 handle table event ≡ stepHost handle table piece event
+  unfolding stepHost told
+  step-event d = rw (ne-eqb (length event) recordSize d)
+
+  pub step-no-handle : {b : Bool} → length event ≡ recordSize → b ≡ isHandle handle → not b ≡ true → hostStepped 2068 handle table event ≡ stepHost handle table piece event
+  unfolding stepHost told
+  step-no-handle {b} l e f = rw (eq-eqb (length event) recordSize l, not-call b (isHandle handle) e f)
+
+  -- nothing is said of a step that is refused before it begins
+  pub event-none : {A : Type 0} → (length event ≡ recordSize → ⊥) → isHandle handle ≡ true → length event ≡ recordSize → A
+  event-none d i l = absurd (d l)
+
+  pub handle-none : {A : Type 0} {b : Bool} → b ≡ isHandle handle → not b ≡ true → isHandle handle ≡ true → length event ≡ recordSize → A
+  handle-none {b = b} e f i l = absurd (never (sym (not-call b (isHandle handle) e f) ∙ i))
+
+  pub step-goes : {b : Bool} {n : ℕ} (handle′ table′ event′ : List ℕ) (m : Moved) → length event ≡ recordSize → b ≡ isHandle handle → not b ≡ false
+      → movedOf m handle′ table′ ≡ movedBy handle table piece → answered n event′ ≡ told (answerOf (m .texts) (m .answer)) event
+      → hostStepped (n + m .taken * 65_536) handle′ table′ event′ ≡ stepHost handle table piece event
+  unfolding stepHost
+  step-goes {b} handle′ table′ event′ m l e f g i =
+      rw (eq-eqb (length event) recordSize l, not-not-call b (isHandle handle) e f)
+      (ap (λ (a : Answered). hostStepped (a .number + m .taken * 65_536) handle′ table′ (a .memory)) i ∙ ap (λ (x : Gone). steppedAs x event) g)
+
+-- ---- saving
+
+number-any : (s : Saved) (x y : List ℕ) → answered (savedNumber (writtenOf s x)) y ≡ savedAs (writtenOf s y)
+number-any (saved.Whole n) x y = refl
+number-any (saved.Unsaved r) x y = refl
+
+module _ (handle table out : List ℕ) {b : Bool} (e : b ≡ isHandle handle) where
+  pub save-no-handle : not b ≡ true → answered 20 out ≡ saveHost handle table out
+  unfolding saveHost
+  save-no-handle f = rw (not-call b (isHandle handle) e f)
+
+  pub save-goes : {n : ℕ} (r : Reader) (s : Saved) (after : List ℕ) → not b ≡ false → r ≡ readerIn handle → Saves r table out s after → n ≡ savedNumber (writtenOf s [])
+      → answered n after ≡ saveHost handle table out
+  unfolding saveHost
+  save-goes r s after f g h i =
+      rw (not-not-call b (isHandle handle) e f, i) (number-any s [] after ∙ ap savedAs (rw g at h))
+
+-- ---- a line
+
+module _ (line out : List ℕ) where
+  pub line-short : length out < length line → answered 25 out ≡ lineTo line out
+  unfolding lineTo
+  line-short h = rw (lt-leb (length line) (length out) h)
+
+  pub line-fits : (after : List ℕ) → length line ≤ length out → after ≡ overlay out 0 line → answered (length line * 256) after ≡ lineTo line out
+  unfolding lineTo
+  line-fits after h e = rw (le-leb (length line) (length out) h, e)
+
+module _ (text : List ℕ) (size : ℕ) (out : List ℕ) (most : size ≤ lineSize) (long : length text ≡ lineSize) where
+  text-length : length (take size text) ≡ size
+  text-length = length-take-le size text (omega (arith, long))
+
+  pub text-short : length out < size → answered 25 out ≡ lineTo (take size text) out
+  text-short h = line-short (take size text) out (omega (arith, text-length))
+
+  pub text-fits : (after : List ℕ) → size ≤ length out → after ≡ overlay out 0 (part text 0 size) → answered (size * 256) after ≡ lineTo (take size text) out
+  unfolding part
+  text-fits after h e = ap (λ (n : ℕ). answered (n * 256) after) (sym text-length) ∙ line-fits (take size text) out after (omega (arith, text-length)) e
+
+-- what is shown, by its kind
+module _ (t : Text) (out : List ℕ) where
+  pub shown-line : (n : ℕ) {a : ℕ} {after : List ℕ} → t .shown ≡ shown.Line n → answered a after ≡ lineTo (take n (t .text)) out → answered a after ≡ shownTo t out
+  shown-line n e f = rw e f
+
+  pub shown-past : t .shown ≡ shown.Past → answered 0 out ≡ shownTo t out
+  shown-past e = rw e
+
+  pub shown-unfit : t .shown ≡ shown.Unfit → answered 20 out ≡ shownTo t out
+  shown-unfit e = rw e
+
+-- a line stands at the front of its text
+text-line : (ys : List ℕ) → take (length ys) (lineWith ys .text) ≡ ys
+unfolding overlay
+text-line ys = take-at ys (drop (0 + length ys) (replicate lineSize 0)) (length ys) refl
+
+-- of rows that fit, what is shown is the line, or nothing
+shown-is : (k next rows : ℕ) (mem : List ℕ) (x : Ending) (out : List ℕ) → rowsFit rows mem ≡ true
+    → shownTo (shownOf k next rows mem x) out ≡ lineTo (lineOf k next rows mem x) out
+unfolding shownOf lineOf
+shown-is k next rows mem x out e = rw e (by (leb k (rows + 1)))
+  where
+    by : (y : Bool) → shownTo (cond y (lineWith (lineIn k next rows mem x)) (noLine shown.Past)) out ≡ lineTo (cond y (lineIn k next rows mem x) []) out
+    by true = ap (λ (ys : List ℕ). lineTo ys out) (text-line (lineIn k next rows mem x))
+    by false = line-fits [] out out (omega arith) (sym (overlay-none out 0))
+
+-- ---- a handle within its limits
+
+module _ (handle table : List ℕ) {b : Bool} (e : b ≡ isHandle handle) where
+  pub limits-none : not b ≡ true → false ≡ hostWithin handle table
+  unfolding hostWithin
+  limits-none f = rw (not-call b (isHandle handle) e f)
+
+  pub limits-as : not b ≡ false → (h : Head) → h ≡ headOf handle → {w : Bool} → w ≡ lentWithin h (part handle headSize heldSize) table → w ≡ hostWithin handle table
+  unfolding hostWithin
+  limits-as f h g {w} i =
+      let l = handle-length handle (not-not-call b (isHandle handle) e f) in
+      let x : w ≡ withinLimits (readerWith h (part handle headSize heldSize)) table
+      = limits-of (readerWith h (part handle headSize heldSize)) (part-length handle headSize heldSize (omega (arith, l))) h refl table i in
+      rw (not-not-call b (isHandle handle) e f) (x ∙ ap (λ (y : Head). withinLimits (readerWith y (part handle headSize heldSize)) table) g)
+
+module _ (handle table : List ℕ) {w : Bool} (e : w ≡ hostWithin handle table) where
+  module _ (f : not w ≡ false) where
+    kept : (isHandle handle ≡ true) × (withinLimits (readerIn handle) table ≡ true)
+    unfolding hostWithin
+    kept = and-both (isHandle handle) (withinLimits (readerIn handle) table) (not-not-call w (hostWithin handle table) e f)
+
+    pub within-handle : length handle ≡ handleSize
+    within-handle = handle-length handle (kept .0)
+
+    module _ (h : Head) (g : h ≡ headOf handle) where
+      rows-fit : rowsFit (h .board .rows) table ≡ true
+      unfolding withinLimits fits
+      rows-fit = rw g (both-left (rowsFit (headOf handle .board .rows) table) _ (kept .1))
+
+      few : Fitting (h .board .rows) table
+      few = rows-fitting (h .board .rows) table rows-fit
+
+      pub within-rows : h .board .rows * rowSize ≤ length table
+      within-rows = omega (arith, few)
+
+      pub found-fits : (id : ℕ) (x : Found) → x ≡ rowFor (h .board .rows) table id → FoundFits x
+      found-fits id x m = subst FoundFits (sym m) (found-few id (rowFor (h .board .rows) table id) refl)
+        where
+          found-few : (id : ℕ) (y : Found) → rowFor (h .board .rows) table id ≡ y → FoundFits y
+          found-few id (At k) r = omega (arith, few, found (h .board .rows) table id k r)
+          found-few id Nothing r = tt
+
+  -- a line
+  module _ (k : ℕ) (out : List ℕ) where
+    pub line-unfit : not w ≡ true → answered 20 out ≡ lineHost handle table k out
+    unfolding lineHost
+    line-unfit f = rw (not-call w (hostWithin handle table) e f)
+
+    pub line-goes : not w ≡ false → (h : Head) → h ≡ headOf handle → {n : ℕ} (x : Ending) (t : Text) (after : List ℕ)
+        → x ≡ endingOf (h .refusal) (h .ended) → t ≡ shownOf k (h .line .next) (h .board .rows) table x → answered n after ≡ shownTo t out
+        → answered n after ≡ lineHost handle table k out
+    unfolding lineHost
+    line-goes f h g x t after l m o =
+        rw (not-not-call w (hostWithin handle table) e f)
+        (o ∙ ap (λ (y : Text). shownTo y out) m ∙ shown-is k (h .line .next) (h .board .rows) table x out (rows-fit f h g)
+        ∙ ap (λ (y : Ending). lineTo (lineOf k (h .line .next) (h .board .rows) table y) out) l
+        ∙ ap (λ (y : Head). lineTo (lineOf k (y .line .next) (y .board .rows) table (endingOf (y .refusal) (y .ended))) out) g)
+
+  -- the row for an id
+  module _ (id : ℕ) where
+    pub find-unfit : not w ≡ true → 20 ≡ findHost handle table id
+    unfolding findHost
+    find-unfit f = rw (not-call w (hostWithin handle table) e f)
+
+    pub find-goes : not w ≡ false → (h : Head) → h ≡ headOf handle → {n : ℕ} (x : Found) → x ≡ rowFor (h .board .rows) table id → n ≡ foundNumber x
+        → n ≡ findHost handle table id
+    unfolding findHost
+    find-goes f h g x m o =
+        rw (not-not-call w (hostWithin handle table) e f)
+        (o ∙ ap foundNumber m ∙ ap (λ (y : Head). foundNumber (rowFor (y .board .rows) table id)) g)
+
+pub found-at : {x : Found} {k : ℕ} → x ≡ At k → (k + 1) * 256 ≡ foundNumber x
+found-at e = rw e
+
+pub place-fits : {x : Found} {k : ℕ} → x ≡ At k → FoundFits x → k < mostRows
+place-fits e f = rw e at f
+
+-- ---- a handle of the right length
+
+pub handle-fits : (handle : List ℕ) {b : Bool} → b ≡ isHandle handle → not b ≡ false → length handle ≡ handleSize
+handle-fits handle {b} e f = handle-length handle (not-not-call b (isHandle handle) e f)
+
+-- the reader in a handle
+pub reader-there : (handle blank held : List ℕ) (h : Head) (r : Reader) → length handle ≡ handleSize → length blank ≡ heldSize → h ≡ headOf handle
+    → held ≡ overlay blank 0 (part handle headSize heldSize) → r ≡ readerWith h held → r ≡ readerIn handle
+reader-there handle blank held h r l m e f g =
+    let n : length (part handle headSize heldSize) ≡ heldSize = part-length handle headSize heldSize (omega (arith, l)) in
+    g ∙ ap (readerWith h) (f ∙ overlay-whole blank (part handle headSize heldSize) (n ∙ sym m)) ∙ ap (λ (x : Head). readerWith x (part handle headSize heldSize)) e
+
+-- ---- the size of an image
+
+size-few : (rows : ℕ) → rows ≤ mostRows → sizeFor rows ≤ mostBlocks * blockSize
+unfolding sizeFor blocksFor pagesFor
+size-few rows h = omega arith
+
+saved-few : (h : Header) (mem out : List ℕ) (s : Saved) (z : List ℕ) → saveOf h mem out ≡ saving s z → SavedFits s
+unfolding headers.withinLimits fits
+saved-few h mem out (saved.Whole n) z e =
+    let a = stored h mem out n z e in
+    let f = both-left (fits (h .board) mem) (numberInRange (h .next)) (a .within) in
+    let few : h .board .rows ≤ mostRows = leb-true (h .board .rows) mostRows (both-right (eqb (length mem) tableSize) _ f) in
+    rw (a .size) (size-few (h .board .rows) few)
+saved-few h mem out (saved.Unsaved r) z e = omega arith
+
+count-any : (s : Saved) (x y : List ℕ) → writtenOf s x .count ≡ writtenOf s y .count
+count-any (saved.Whole n) x y = refl
+count-any (saved.Unsaved r) x y = refl
+
+pub saves-fit : (r : Reader) (memory out : List ℕ) (s : Saved) (after : List ℕ) → Saves r memory out s after → SavedFits s
+unfolding saveAll
+saves-fit r memory out s after e = rw (count-any s [] after ∙ ap (λ (w : Written). w .count) e) (by (withinLimits r memory))
+  where
+    by : (b : Bool) → cond b (writtenBy (saveOf (headerOf r) memory out)) (record { refusal = 20; count = 0; out = out }) .count ≤ mostBlocks * blockSize
+    by true =
+        let o = saveOf (headerOf r) memory out in
+        rw (count-any (o .answer) (o .out) []) (saved-few (headerOf r) memory out (o .answer) (o .out) refl)
+    by false = omega arith
+
+-- ---- what is told
+
+module _ (n : ℕ) (session memory first after : List ℕ) where
+  pub login-told : length memory ≡ recordSize → length session ≡ 10 → first ≡ overlay memory 0 (bytesBe 8 n) → after ≡ overlay first 8 (part session 0 10)
+      → after ≡ overlay memory 0 (loginBytes n session)
+  login-told l m e f =
+      let w : length (bytesBe 8 n) ≡ 8 = digits-length 256 8 n in
+      f ∙ ap (λ (x : List ℕ). overlay x 8 (part session 0 10)) e ∙ ap (overlay (overlay memory 0 (bytesBe 8 n)) 8) (part-whole session 10 m)
+      ∙ (rw w at (overlay-next memory 0 (bytesBe 8 n) session (omega (arith, w, l, m))))
+
+module _ (texts : Texts) (e : code.Event) (memory : List ℕ) where
+  pub event-login : {n : ℕ} {after : List ℕ} → e ≡ event.Login n → after ≡ overlay memory 0 (loginBytes n (texts .session))
+      → answered 256 after ≡ toldEvent (eventOf texts e) memory
+  unfolding toldEvent
+  event-login f g = rw (f, g)
+
+  pub event-rejected : {n : ℕ} {after : List ℕ} → e ≡ event.Rejected n → after ≡ overlay memory 0 (bytesBe 1 n) → answered 512 after ≡ toldEvent (eventOf texts e) memory
+  unfolding toldEvent
+  event-rejected f g = rw (f, g)
+
+  pub event-message : {m : Message} {after : List ℕ} → e ≡ event.Message m → after ≡ recordBytes m (texts .message) → answered 768 after ≡ toldEvent (eventOf texts e) memory
+  unfolding toldEvent
+  event-message f g = rw (f, g)
+
+  pub event-heartbeat : e ≡ event.Heartbeat → answered 1024 memory ≡ toldEvent (eventOf texts e) memory
+  unfolding toldEvent
+  event-heartbeat f = rw f
+
+  pub event-end : e ≡ event.End → answered 1280 memory ≡ toldEvent (eventOf texts e) memory
+  unfolding toldEvent
+  event-end f = rw f
+
+  pub event-skipped : e ≡ event.Skipped → answered 1536 memory ≡ toldEvent (eventOf texts e) memory
+  unfolding toldEvent
+  event-skipped f = rw f
+
+module _ (texts : Texts) (a : StepAnswer) (memory : List ℕ) where
+  pub tells-event : {e : code.Event} {n : ℕ} {after : List ℕ} → a ≡ answer.Event e → answered n after ≡ toldEvent (eventOf texts e) memory
+      → answered n after ≡ told (answerOf texts a) memory
+  unfolding told
+  tells-event f g = rw f g
+
+  pub tells-more : a ≡ answer.More → answered 0 memory ≡ told (answerOf texts a) memory
+  unfolding told
+  tells-more f = rw f
+
+  pub tells-ended : a ≡ answer.Ended → answered 1792 memory ≡ told (answerOf texts a) memory
+  unfolding told
+  tells-ended f = rw f
+
+  pub tells-refused : {r : Refusal} {n : ℕ} → a ≡ answer.Refused r → n ≡ refusalNumber r → answered (2048 + n) memory ≡ told (answerOf texts a) memory
+  unfolding told
+  tells-refused f g = rw (f, g)
+
+pub started-ready : {a : StartAnswer} → a ≡ started.Ready → 0 ≡ startNumber a
+started-ready e = rw e
+
+pub started-refused : {a : StartAnswer} {r : Refusal} {n : ℕ} → a ≡ started.Refused r → n ≡ refusalNumber r → n ≡ startNumber a
+started-refused e f = rw (e, f)
+
+pub saved-whole : {s : Saved} {n : ℕ} → s ≡ saved.Whole n → n * 256 ≡ savedNumber (writtenOf s [])
+saved-whole e = rw e (omega arith)
+
+pub saved-not : {s : Saved} {r : image.Refusal} {n : ℕ} → s ≡ saved.Unsaved r → n ≡ images.refusalNumber r → n ≡ savedNumber (writtenOf s [])
+saved-not e f = rw (e, f) (omega arith)
+
+pub saved-fits : {s : Saved} {n : ℕ} → s ≡ saved.Whole n → SavedFits s → n ≤ mostBlocks * blockSize
+saved-fits e f = rw e at f
