@@ -1,5 +1,4 @@
--- THE ROUND TRIPS: a head that was laid over a handle is read back, and the head of a handle, laid over it, changes nothing;
--- the head and the held bytes leave each other alone.
+-- THE ROUND TRIPS: a head that was laid over a handle is read back, and the head of a handle, laid over it, changes nothing.
 -- Assumes nothing.
 use mathlib.Core.Path.{_≡_, refl, sym, ap, _∙_}
 use mathlib.Core.Bool.{Bool, true, false, _&&_}
@@ -7,13 +6,13 @@ use mathlib.Core.List.{List, [], _∷_, _++_}
 use Prim.Native.Nat.{ℕ, zero, suc, _+_, _%_, _^_, _≤_, _<_}
 use native.Mathlib.Nat.{zero-add}
 use native.Mathlib.Omega.{arith}
-use lib.Dec.{eqb, lit<, lit≤}
+use lib.Dec.{eqb, lit<}
 use lib.ListN.{length, drop, length-append}
 use lib.Seq.{take-at}
 use borrow.Author.Tests.{eq-eqb, eqb-true, leb-true}
 use Rattle.field.specs.Bytes.{part, overlay, be, bytesBe, Bytes}
 use Rattle.field.proofs.Bools.{both-left, both-right}
-use Rattle.field.proofs.Parts.{part-length, overlay-length, overlay-own, part-before, part-after}
+use Rattle.field.proofs.Parts.{part-length, overlay-length, overlay-own}
 use Rattle.field.proofs.Numbers.{digits-length, digits-mod, part-bytes, part-below}
 use Rattle.message.specs.Layout.{num, raw, Row, row, values, keepsAll, bytesFor, tiled, Fit}
 use Rattle.message.proofs.Layouts.{rowsIn, values-back, written-back, values-in-part}
@@ -110,9 +109,6 @@ pub head-back : (h : Head) → HeadFits h → (rest : List ℕ) → headOf (head
 unfolding headOf
 head-back h f rest = ap headFrom (fields-back h f rest) ∙ from-fields h
 
-pub head-put-back : (h : Head) → HeadFits h → (bs : List ℕ) → headOf (overlay bs 0 (headBytes h)) ≡ h
-head-put-back h f bs = ap headOf (head-before h (f .session) bs) ∙ head-back h f (drop headSize bs)
-
 -- ---- a head over a handle
 
 -- only the low bytes of each number count
@@ -167,29 +163,6 @@ module _ (h : Head) (ten : length (h .line .session) ≡ 10) (bs : List ℕ) (si
       let v : values headRows (overlay bs 0 (headBytes h)) ≡ headFields (trimmed h)
       = ap (values headRows) e ∙ fields-back (trimmed h) (trimmed-fits h ten) (drop headSize bs) in
       rw (eq-eqb (length (overlay bs 0 (headBytes h))) handleSize put-length, v) (fields-keep (trimmed h))
-
-  -- what stands behind the head stays, and so do the places of the held bytes
-  pub behind-kept : (at n : ℕ) → headSize ≤ at → part (overlay bs 0 (headBytes h)) at n ≡ part bs at n
-  behind-kept at n f = part-after bs 0 (headBytes h) room at n (omega (arith, head-length h ten))
-
-  pub held-kept : part (overlay bs 0 (headBytes h)) headSize 258 ≡ part bs headSize 258
-  held-kept = behind-kept headSize 258 (lit≤ tt)
-
--- ---- held bytes behind a head
-
-module _ (bs : List ℕ) (at : ℕ) (held : List ℕ) (behind : headSize ≤ at) (room : at + length held ≤ length bs) where
-  values-kept : values headRows (overlay bs at held) ≡ values headRows bs
-  values-kept =
-      sym (front (overlay bs at held)) ∙ ap (values headRows) (part-before bs at held room 0 headSize behind) ∙ front bs
-
-  -- HELD BYTES LEAVE THE HEAD
-  pub held-put : headOf (overlay bs at held) ≡ headOf bs
-  unfolding headOf
-  held-put = ap headFrom values-kept
-
-  pub held-still : isHandle (overlay bs at held) ≡ isHandle bs
-  unfolding isHandle
-  held-still = rw (overlay-length bs at held room, values-kept)
 
 -- ---- the bytes of a handle
 

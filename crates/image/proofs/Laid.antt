@@ -18,9 +18,6 @@ use Rattle.image.specs.Shape.{pageRows, pagesFor, blocksFor, mostBlocks,
 
 -- ---- the sizes fit one another
 
-pub page-size : pageRows * rowSize ≡ bodySize
-page-size = refl
-
 pub most-blocks : blocksFor mostRows ≡ mostBlocks
 unfolding blocksFor pagesFor
 most-blocks = refl
