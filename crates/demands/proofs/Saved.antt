@@ -208,11 +208,11 @@ fresh-saves r t o e out room a z h =
     let board : r .board ≡ freshBoard = ap (λ (s : Session Table). s .about .board) e in
     let head : headerOf r ≡ freshHeader = rw (line, board) in
     let rows : r .board .rows ≡ 0 = ap (λ (b : Board). b .rows) board in
-    let fits : 512 ≤ length out = subst (λ (n : ℕ). (1 + (n + 3) / 4) * 512 ≤ length out) rows room in
-    let saved : saveOf (headerOf r) t out ≡ saving (Whole 512) (overlay out 0 (imageOf freshHeader t))
+    let fits : sizeFor 0 ≤ length out = subst (λ (n : ℕ). sizeFor n ≤ length out) rows room in
+    let saved : saveOf (headerOf r) t out ≡ saving (Whole (sizeFor 0)) (overlay out 0 (imageOf freshHeader t))
     = ap (λ (x : Header). saveOf x t out) head ∙ fresh-saved t out (o .sound .about .rows .sized) fits in
     ap (λ (s : Saving). s .answer) (sym (saves-is r t out a z h (ours-within r t o)) ∙ saved)
-    ∙ ap (λ (n : ℕ). Whole ((1 + (n + 3) / 4) * 512)) (sym rows)
+    ∙ ap (λ (n : ℕ). Whole (sizeFor n)) (sym rows)
 
 -- THEOREM: saving what our own calls make is not refused but where the output is too short
 pub ours-saved : (r : Reader) (t : List ℕ) → Ours r t → (out : List ℕ) → sizeFor (r .board .rows) ≤ length out → (a : Saved) (z : List ℕ)

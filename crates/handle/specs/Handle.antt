@@ -1,20 +1,21 @@
 -- The handle in bytes: its head, and behind that the places of its held bytes.
 -- Assumes nothing.
-use Prim.Native.Nat.{ℕ}
+use Prim.Native.Nat.{ℕ, _+_}
 use mathlib.Core.Bool.{Bool, _&&_, cond}
 use mathlib.Core.List.{List, [], _∷_, _++_}
 use lib.Dec.{eqb, leb}
 use lib.ListN.{length}
 use Rattle.message.specs.Layout.{Value, num, raw, numberAt, bytesAt, binary, bytes, Row, row, values, keepsAll, bytesFor}
 use Rattle.message.specs.Letters.{anything}
+use Rattle.packet.specs.Frame.{heldSize}
 use Rattle.handle.specs.declared.Head.{Head}
 
 abbrev pub headSize : ℕ
 headSize = 47
 
--- with 258 places of held bytes behind the head
+-- with the places of held bytes behind the head, 305
 abbrev pub handleSize : ℕ
-handleSize = 305
+handleSize = headSize + heldSize
 
 -- ---- a flag is a byte, 0 or 1
 

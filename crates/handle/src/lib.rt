@@ -8,7 +8,8 @@ ghost use Rattle.handle.specs.Handle.{handleSize, isHandle, headOf, head
 
 pub const HEAD_SIZE: usize = 47;
 
-pub const HANDLE_SIZE: usize = 305;
+// With the places of held bytes behind the head: 305.
+pub const HANDLE_SIZE: usize = HEAD_SIZE + packet::HELD_SIZE;
 
 // The handle but for the places of its held bytes.
 pub struct Head {

@@ -29,13 +29,13 @@ add-end c =
 array-share-prefix-all : tie.Need-array-share-prefix-all
 array-share-prefix-all c =
     let at-joined = c .before .before in
-    let long : length (at-joined .joined .result) ≡ 258 = search needs in
+    let long : length (at-joined .joined .result) ≡ heldSize = search needs in
     omega (arith, room-there (at-joined .before .before))
 
 slice-aggregate-straight : tie.Need-slice-aggregate-straight
 slice-aggregate-straight c =
     let at-joined = c .before .before .before in
-    let long : length (at-joined .joined .result) ≡ 258 = search needs in
+    let long : length (at-joined .joined .result) ≡ heldSize = search needs in
     sym (length-take-le _ _ (omega (arith, room-there (at-joined .before .before))))
 
 straight-requires : tie.Need-straight-requires
