@@ -4,7 +4,7 @@ use libc::STDIN_FILENO;
 ghost use Prim.Native.Nat.{_≤_};
 ghost use lib.ListN.{length};
 
-// No name that is written is longer, so that there is room for six letters and two dots behind it.
+// No name that is written is longer, so that there is room for a dot and six letters behind it.
 const MOST_NAME: usize = 4000;
 
 pub enum Loaded {
