@@ -3,6 +3,7 @@ use libc::STDERR_FILENO;
 use libc::STDIN_FILENO;
 ghost use Prim.Native.Nat.{_≤_};
 ghost use lib.ListN.{length};
+ghost use Rattle.toplist.specs.Loading.{LoadedIn};
 
 // No name that is written is longer, so that there is room for a dot and six letters behind it.
 const MOST_NAME: usize = 4000;
@@ -44,7 +45,9 @@ pub fn complain_input(path: &[u8], error: i32) {
 }
 
 // The file's bytes at the start of `space`, as many as it has room for.
-fn read_open(fd: i32, path: &[u8], space: &mut [u8]) -> Loaded {
+fn read_open(fd: i32, path: &[u8], space: &mut [u8]) -> Loaded
+    ensures { λ r. ⌜ LoadedIn r (now (space .exit)) ⌝ }
+{
     let got = libc::read(fd, space);
     if got < 0 {
         complain(path);
@@ -58,7 +61,9 @@ fn read_open(fd: i32, path: &[u8], space: &mut [u8]) -> Loaded {
     Loaded::Bytes(n + more)
 }
 
-pub fn load(path: &[u8], space: &mut [u8]) -> Loaded {
+pub fn load(path: &[u8], space: &mut [u8]) -> Loaded
+    ensures { λ r. ⌜ LoadedIn r (now (space .exit)) ⌝ }
+{
     let fd = open(path);
     if fd < 0 {
         return Loaded::Failed;

@@ -194,12 +194,7 @@ fn begin(from: usize, path: &mut [u8], table: &mut [u8]) -> Begun {
     let n = os::arg(from, path);
     let mut saved = [0u8; LONGER_IMAGE];
     match files::load(&path[..n], &mut saved) {
-        Loaded::Bytes(size) => {
-            if size > LONGER_IMAGE {
-                return none(fresh.reader, FAILED);
-            }
-            restored(&path[..n], &saved[..size], table)
-        }
+        Loaded::Bytes(size) => restored(&path[..n], &saved[..size], table),
         Loaded::Failed => none(fresh.reader, FAILED),
     }
 }

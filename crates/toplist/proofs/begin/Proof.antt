@@ -1,22 +1,17 @@
 -- `toplist::begin` meets its contract.
 -- Assumes nothing.
-use mathlib.Core.Path.{_≡_}
-use Prim.Native.Nat.{_+_, _*_}
-use native.Mathlib.Omega.{arith}
-use lib.ListN.{length}
-use Rattle.block.specs.Block.{blockSize}
-use Rattle.image.specs.Shape.{mostBlocks}
-use Rattle.toplist.proofs.Fronts.{front-length}
+use Rattle.toplist.proofs.Fronts.{front-length, loaded-within}
 use borrow.Author.Needs.{needs}
 use Rattle.toplist.proofs.begin.Statement.{statement}
 use Rattle.toplist.proofs.begin.Tie as tie
 
+array-share-prefix-saved : tie.Need-array-share-prefix-saved
+array-share-prefix-saved c = loaded-within _ (c .before .before .size .given .1) (c .before .before .before .before .before .load .ensures)
+
 slice-aggregate-restored-2 : tie.Need-slice-aggregate-restored-2
-slice-aggregate-restored-2 c =
-    let h : length (c .before .before .before .before .before .before .before .load .last .1 .0) ≡ (mostBlocks + 1) * blockSize = search needs in
-    front-length _ _ (omega arith)
+slice-aggregate-restored-2 c = front-length _ _ (loaded-within _ (c .before .before .before .size .given .1) (c .before .before .before .before .before .before .load .ensures))
 
 pub begin-spec : {M : Type 1} → statement M
 begin-spec =
     tie.close
-    (tie.spec (λ c κs. search needs) (λ c. search needs) (λ c. search needs) (λ c κs. search needs) (λ c. search needs) (λ c. search needs) (λ c. search needs) (λ c κs. search needs) (λ c. search needs) (λ c κs. search needs) (λ c. search needs) (λ c. search needs) (λ c. search needs) (λ c. search needs) (λ c. search needs) (λ c. search needs) slice-aggregate-restored-2 (λ c κs. search needs) (λ c. search needs) (λ c κs. search needs) (λ c. search needs) (λ c. search needs) (λ c. search needs) (λ c. search needs) (λ c. search needs) (λ c. search needs))
+    (tie.spec (λ c κs. search needs) (λ c. search needs) (λ c. search needs) (λ c κs. search needs) (λ c. search needs) (λ c. search needs) (λ c. search needs) (λ c κs. search needs) (λ c. search needs) (λ c. search needs) (λ c. search needs) array-share-prefix-saved slice-aggregate-restored-2 (λ c κs. search needs) (λ c. search needs) (λ c κs. search needs) (λ c. search needs) (λ c. search needs) (λ c. search needs) (λ c. search needs) (λ c. search needs) (λ c. search needs))
