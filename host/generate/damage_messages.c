@@ -151,7 +151,7 @@ static void damage_record(struct dice *d, struct bytes *s)
     plain_write(&m, bytes, n, &written);
 }
 
-/* Puts a message that spoils the next quote: a state other than T, or a
+/* Puts a message that spoils the next quote: a state that takes none, or a
  * directory with tradable N. */
 static void damage_before_quote(struct dice *d, enum session_damage kind,
                                 struct bytes *s)
@@ -163,7 +163,7 @@ static void damage_before_quote(struct dice *d, enum session_damage kind,
     if (kind == DAMAGE_NOT_TRADING) {
         memcpy(body, s->at + quote + 3, 15);
         body[0] = 'H';
-        body[15] = pick(d, "BSHIORX");
+        body[15] = pick(d, quiet_states);
         insert_packet(s, quote, 'S', body, 16);
         return;
     }

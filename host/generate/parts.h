@@ -4,9 +4,12 @@
 
 #include "generate.h"
 
-/* The lists of document 01. */
+/* The lists of document 01. By document 02 a quote is taken in three of the states
+ * and in none of the others. */
 static const char event_codes[] = "OSQNLECW";
 static const char states[] = "BSHTIORX";
+static const char quoting_states[] = "BST";
+static const char quiet_states[] = "HIORX";
 static const char conditions[] = " XY";
 static const char types[] = "CPN";
 static const char closings[] = "NLW";

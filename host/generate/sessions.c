@@ -228,7 +228,8 @@ static void say_quote(struct dice *d, struct market *k, struct bytes *s,
 
 static bool quotable(const struct instrument *i)
 {
-    return i->state == 'T' && i->directory.directory.tradable == 'Y';
+    return memchr(quoting_states, i->state, sizeof quoting_states - 1) != NULL &&
+           i->directory.directory.tradable == 'Y';
 }
 
 /* The first instrument from a random place on that can be quoted. */

@@ -49,8 +49,9 @@
 extern "C" {
 #endif
 
-/* Raised with every change of a call, an answer or a layout that a program can
- * see; nelqubat_is_version() asks the library for its own. */
+/* Raised with every change of a call, of what the parts of an answer mean or of
+ * a layout, and not where a rule of the feed lets other messages in;
+ * nelqubat_is_version() asks the library for its own. */
 #define NELQUBAT_VERSION 1
 
 /* Sizes, in bytes. */
@@ -83,7 +84,7 @@ enum {
     NELQUBAT_REFUSED_MESSAGE_LENGTH = 11, /* wrong length for its letter */
     NELQUBAT_REFUSED_FIELD = 12,          /* a field outside its list or range */
     NELQUBAT_REFUSED_NO_ROW = 13,         /* state or quote for an id with no row */
-    NELQUBAT_REFUSED_NOT_TRADING = 14,    /* a quote, state not T or tradable not Y */
+    NELQUBAT_REFUSED_NOT_TRADING = 14,    /* a quote, state not T, B or S, or tradable not Y */
     NELQUBAT_REFUSED_FIXED_FIELD = 15,    /* a directory changes a fixed field */
     NELQUBAT_REFUSED_FULL = 16,           /* a new id, 256 rows in use */
     NELQUBAT_REFUSED_MEMORY = 20,         /* wrong length, no handle, or a limit broken */

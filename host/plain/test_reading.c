@@ -414,7 +414,7 @@ static void message_refusals(void)
     REFUSED(&b, BID_SHORT("\0\0\0\x08"), 13);
     REFUSED(&b, BOTH_LONG("\x07\0\0\0"), 13);
     REFUSED(&b, BOTH_SHORT(ID_MAX), 14);
-    feed(&b, LITERAL(STATE(ID_MAX, "S")));
+    feed(&b, LITERAL(STATE(ID_MAX, "O")));
     REFUSED(&b, ASK_LONG(ID_MAX), 14);
     feed(&b, LITERAL(STATE(ID_MAX, "T") DIRECTORY(ID_MAX, "N")));
     REFUSED(&b, BID_LONG(ID_MAX), 14);
@@ -431,6 +431,103 @@ static void message_refusals(void)
                      BOTH_LONG("\0\0\x04\xE7")));
     expect_row(&b, 255, LITERAL(ROW("\0\0\x04\xE7", "Y", "T", "X", "\3", LONG_BID,
                                     LONG_ASK, "\4")));
+}
+
+/* A reader with one instrument, in a state unless that is 0. */
+static void start_in(struct bench *b, char state, char tradable)
+{
+    uint8_t directory[] = DIRECTORY(ID7, "Y"), action[] = STATE(ID7, "T");
+    directory[48] = (uint8_t)tradable;
+    action[18] = (uint8_t)state;
+    start(b);
+    feed(b, LITERAL(LOGIN));
+    feed(b, directory, sizeof directory - 1);
+    if (state != 0)
+        feed(b, action, sizeof action - 1);
+}
+
+/* A quote, and the row that it makes where it is the first and the state is T. */
+struct quote {
+    const char *packet;
+    size_t n;
+    const char *row;
+};
+
+/* By document 02, taken in B, S and T with tradable Y, and refused otherwise. */
+static void quote_in(char state, const struct quote *q)
+{
+    const uint8_t *packet = (const uint8_t *)q->packet;
+    uint8_t row[PLAIN_ROW_BYTES];
+    struct bench b;
+    start_in(&b, state, 'N');
+    refused_packet(__LINE__, &b, packet, q->n, 14);
+    start_in(&b, state, 'Y');
+    if (state != 'B' && state != 'S' && state != 'T') {
+        refused_packet(__LINE__, &b, packet, q->n, 14);
+        return;
+    }
+    feed(&b, packet, q->n);
+    memcpy(row, q->row, sizeof row);
+    row[52] = (uint8_t)state;
+    expect_row(&b, 0, row, sizeof row);
+}
+
+/* Every form of a quote, before any state and in each of the eight. */
+static void quotes_by_state(void)
+{
+    static const struct quote quotes[] = {
+        {BOTH_SHORT(ID7), 39, ROW(ID7, "Y", "T", " ", "\3", ROW_SHORT_BID, ROW_SHORT_ASK, "\3")},
+        {BOTH_LONG(ID7), 59, ROW(ID7, "Y", "T", "X", "\3", LONG_BID, LONG_ASK, "\4")},
+        {BID_SHORT(ID7), 29, ROW(ID7, "Y", "T", " ", "\1", ROW_SHORT_BID, NO_SIDE, "\5")},
+        {ASK_SHORT(ID7), 29, ROW(ID7, "Y", "T", "Y", "\2", NO_SIDE, ROW_SHORT_ASK, "\6")},
+        {BID_LONG(ID7), 39, ROW(ID7, "Y", "T", "X", "\1", LONG_BID, NO_SIDE, "\7")},
+        {ASK_LONG(ID7), 39, ROW(ID7, "Y", "T", " ", "\2", NO_SIDE, LONG_ASK, "\x08")},
+    };
+    static const char states[] = {0, 'B', 'S', 'H', 'T', 'I', 'O', 'R', 'X'};
+    for (size_t k = 0; k < sizeof quotes / sizeof *quotes; k++)
+        for (size_t i = 0; i < sizeof states; i++)
+            quote_in(states[i], &quotes[k]);
+}
+
+/* States that follow each other: quotes stay through those that take none, and
+ * a side that a quote lacks keeps every byte in B and S too. */
+static void states_in_turn(void)
+{
+    struct bench b;
+    start_in(&b, 'T', 'Y');
+    feed(&b, LITERAL(BOTH_SHORT(ID7) STATE(ID7, "B") BID_LONG(ID7)));
+    expect_row(&b, 0, LITERAL(ROW(ID7, "Y", "B", "X", "\3", LONG_BID, ROW_SHORT_ASK, "\7")));
+    feed(&b, LITERAL(STATE(ID7, "S") BID_SHORT(ID7)));
+    expect_row(&b, 0, LITERAL(ROW(ID7, "Y", "S", " ", "\3", ROW_SHORT_BID, ROW_SHORT_ASK, "\5")));
+    feed(&b, LITERAL(ASK_LONG(ID7)));
+    expect_row(&b, 0, LITERAL(ROW(ID7, "Y", "S", " ", "\3", ROW_SHORT_BID, LONG_ASK, "\x08")));
+    feed(&b, LITERAL(STATE(ID7, "T") STATE(ID7, "H")));
+    REFUSED(&b, ASK_SHORT(ID7), 14);
+    expect_row(&b, 0, LITERAL(ROW(ID7, "Y", "H", " ", "\3", ROW_SHORT_BID, LONG_ASK, "\2")));
+    feed(&b, LITERAL(STATE(ID7, "T") ASK_SHORT(ID7)));
+    expect_row(&b, 0, LITERAL(ROW(ID7, "Y", "T", "Y", "\3", ROW_SHORT_BID, ROW_SHORT_ASK, "\6")));
+    feed(&b, LITERAL(STATE(ID7, "B") DIRECTORY(ID7, "N")));
+    REFUSED(&b, BOTH_LONG(ID7), 14);
+    feed(&b, LITERAL(DIRECTORY(ID7, "Y") BOTH_LONG(ID7)));
+    expect_row(&b, 0, LITERAL(ROW(ID7, "Y", "B", "X", "\3", LONG_BID, LONG_ASK, "\4")));
+    expect_listing(&b, "next 17\n7 B 214748.3647 1.2501\nok\n");
+}
+
+/* Whatever bytes a row holds: a quote needs B, S or T, and Y. */
+static void states_in_strange_memory(void)
+{
+    struct bench b, before;
+    start_in(&before, 'T', 'Y');
+    b = before;
+    for (unsigned state = 0; state < 256; state++) {
+        for (unsigned tradable = 0; tradable < 256; tradable++) {
+            bool taken = (state == 'B' || state == 'S' || state == 'T') && tradable == 'Y';
+            b.r = before.r;
+            b.table[34] = (uint8_t)tradable;
+            b.table[52] = (uint8_t)state;
+            EQUAL(step(&b, LITERAL(BID_SHORT(ID7))).refusal, taken ? 0 : 14, "a quote's refusal");
+        }
+    }
 }
 
 /* Each of the sixteen fixed bytes of a directory, changed within its rules. */
@@ -606,6 +703,9 @@ void test_reading(void)
     sides_in_strange_memory();
     packet_refusals();
     message_refusals();
+    quotes_by_state();
+    states_in_turn();
+    states_in_strange_memory();
     fixed_fields();
     broken_handles();
     ended_and_refused();

@@ -1,14 +1,16 @@
 -- Examples, by computing.
 -- Assumes nothing.
 use mathlib.Core.Path.{_≡_, refl}
-use mathlib.Core.List.{List}
+use mathlib.Core.Bool.{true, false}
+use mathlib.Core.List.{List, [], _∷_, map}
 use Prim.Native.Nat.{ℕ}
 use lib.ListN.{replicate}
 use Rattle.field.specs.Bytes.{part, overlay, digits, value}
 use Rattle.message.specs.Layout.{bytesFor}
+use Rattle.message.specs.Letters.{listed, states}
 use Rattle.message.specs.declared.Side.the-variants.{Bid, Ask}
 use Rattle.message.specs.declared.ShortNumbers.{ShortNumbers}
-use Rattle.row.specs.Fields.{rowSize, sidesOf, priceOf, numbersOf, seenWith}
+use Rattle.row.specs.Fields.{rowSize, sidesOf, priceOf, numbersOf, seenWith, stateTakesQuote}
 use Rattle.row.specs.Changes.{changed, widened, sidesChanges, quoteChanges}
 use Rattle.row.specs.declared.Sides.the-variants.{One}
 use Rattle.row.specs.declared.Quote.{Quote}
@@ -41,3 +43,8 @@ bid-price = refl
 ask-left : numbersOf Ask row-after ≡ replicate 20 0
 unfolding changed quoteChanges sidesChanges seenWith overlay part digits value bytesFor
 ask-left = refl
+
+-- W-201: before any state no quote is taken, and of B S H T I O R X, in B, S and T
+quoting : map stateTakesQuote (0 ∷ states) ≡ false ∷ true ∷ true ∷ false ∷ true ∷ false ∷ false ∷ false ∷ false ∷ []
+unfolding listed
+quoting = refl

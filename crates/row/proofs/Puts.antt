@@ -24,7 +24,7 @@ use Rattle.message.specs.declared.Instrument.{Instrument}
 use Rattle.message.specs.declared.Directory.{Directory}
 use Rattle.message.specs.declared.TradingAction.{TradingAction}
 use Rattle.message.specs.declared.Texts.{Texts}
-use Rattle.row.specs.Fields.{rowSize, textsIn, idOf, tradableOf, sideAt, priceOf, hasSeen, weight, seenWith, takesQuote}
+use Rattle.row.specs.Fields.{rowSize, textsIn, idOf, tradableOf, sideAt, priceOf, hasSeen, weight, seenWith, stateTakesQuote, takesQuote}
 use Rattle.row.specs.Changes.{changed, purge, directoryChanges, unchanged, newRow, actionChanges, widened, sidesChanges, quoteChanges}
 use Rattle.row.specs.Rules.{entryKeeps, marksKeep, sideKeeps}
 use Rattle.row.specs.declared.Sides.{Sides}
@@ -154,10 +154,15 @@ pub entry-keeps : (xs : List ℕ) {i : Instrument} {t : Texts} {r : Bool} → i 
 unfolding entryKeeps values keepsAll
 entry-keeps xs p q e = rw (p, q) at e
 
-pub takes-quote : (xs : List ℕ) {state tradable : ℕ} → state ≡ be (part xs 52 1) → tradable ≡ be (part xs 34 1)
-    → eqb state 84 && eqb tradable 89 ≡ takesQuote xs
-unfolding takesQuote tradableOf values
-takes-quote xs e f = rw (e, f)
+-- a quote is taken where the state takes one and tradable is Y
+module _ (xs : List ℕ) {state : ℕ} {quoting : Bool} (e : state ≡ be (part xs 52 1)) (f : quoting ≡ stateTakesQuote state) where
+  pub state-denies : quoting ≡ false → false ≡ takesQuote xs
+  unfolding takesQuote
+  state-denies g = rw (← e, ← f, g)
+
+  pub state-allows : {tradable : Bool} → quoting ≡ true → tradable ≡ eqb (be (part xs 34 1)) 89 → tradable ≡ takesQuote xs
+  unfolding takesQuote tradableOf values
+  state-allows g h = rw (← e, ← f, g, h)
 
 pub price-read : (xs : List ℕ) (side : Side) {at price : ℕ} → at ≡ sideAt side → price ≡ be (part xs (at + 4) 4) → price ≡ priceOf side xs
 price-read xs side e f = rw e at f

@@ -2,11 +2,11 @@
 -- Assumes nothing.
 use Prim.Native.Nat.{ℕ, _+_, _/_, _%_}
 use mathlib.Core.Bool.{Bool, _&&_, cond}
-use mathlib.Core.List.{List}
+use mathlib.Core.List.{List, [], _∷_}
 use lib.Dec.{eqb}
 use Rattle.field.specs.Bytes.{part, be}
 use Rattle.message.specs.Layout.{values}
-use Rattle.message.specs.Letters.{entryRows, instrumentOf, textsOf, entrySize}
+use Rattle.message.specs.Letters.{listed, entryRows, instrumentOf, textsOf, entrySize}
 use Rattle.message.specs.declared.Instrument.{Instrument}
 use Rattle.message.specs.declared.Texts.{Texts}
 use Rattle.message.specs.declared.Side.{Side}
@@ -82,9 +82,13 @@ seenWith side sides = cond (hasSeen side sides) sides (sides + weight side)
 
 -- ---- what a quote needs
 
--- may a row in this state take a quote? In T
+-- T B S: continuous trading, and its special cases with the buy or the sell side suspended (W-201)
+abbrev pub quotingStates : List ℕ
+quotingStates = 84 ∷ 66 ∷ 83 ∷ []
+
+-- may a row in this state take a quote?
 abbrev pub stateTakesQuote : ℕ → Bool
-stateTakesQuote state = eqb state 84
+stateTakesQuote state = listed quotingStates state
 
 -- and tradable Y
 unfoldable pub takesQuote : List ℕ → Bool

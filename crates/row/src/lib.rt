@@ -8,6 +8,7 @@ use message::Side;
 use message::Stamp;
 use message::Texts;
 use message::TradingAction;
+use message::codes;
 use message::entry;
 use message::numbers;
 ghost use mathlib.Core.Path.{_≡_};
@@ -16,7 +17,7 @@ ghost use lib.ListN.{length};
 ghost use Rattle.field.specs.Bytes.{overlay, same};
 ghost use Rattle.message.specs.Layout.{bytesFor};
 ghost use Rattle.message.specs.Letters.{stampRows, stampFields};
-ghost use Rattle.row.specs.Fields.{rowSize, textsIn, seenWith, takesQuote};
+ghost use Rattle.row.specs.Fields.{rowSize, textsIn, seenWith, stateTakesQuote, takesQuote};
 ghost use Rattle.row.specs.Changes.{changed, purge, directoryChanges, unchanged, newRow, actionChanges, widened, sidesChanges, quoteChanges};
 
 pub mod fields;
@@ -52,12 +53,22 @@ pub fn widened(n: ShortNumbers) -> LongNumbers
     }
 }
 
+// May a row in this state take a quote?
+fn state_takes_quote(state: u8) -> bool
+    ensures { λ r. ⌜ r ≡ stateTakesQuote state ⌝ }
+{
+    codes::is_listed(state, b"TBS")
+}
+
 // May the row take a quote?
 pub fn takes_quote(row: &[u8]) -> bool
     requires { ⌜ rowSize ≤ length (now row) ⌝ }
     ensures { λ r. ⌜ r ≡ takesQuote (now (row .entry)) ⌝ }
 {
-    (fields::state(row) == b'T') & (field::read1(row, 34) == b'Y')
+    if !state_takes_quote(fields::state(row)) {
+        return false;
+    }
+    field::read1(row, 34) == b'Y'
 }
 
 // The sides seen, with one more.
