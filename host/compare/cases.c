@@ -301,6 +301,19 @@ void make_handle_case(struct dice *d, bool damaged, struct script *s, struct tal
     t->damaged += damaged;
 }
 
+void make_quote_case(struct dice *d, bool damaged, struct script *s, struct tally *t)
+{
+    struct plain_reader r;
+    uint8_t packet[NELQUBAT_PACKET_BYTES];
+    struct bytes quote = {packet, 0, sizeof packet};
+    script_clear(s);
+    make_quoted(d, damaged, &r, s->table, &quote);
+    oracle_pack_handle(&r, s->handle);
+    add_pieces(d, quote.at, quote.n, s);
+    t->handles++;
+    t->damaged += damaged;
+}
+
 /* Images. */
 
 static void make_any_image(struct dice *d, bool damaged, struct bytes *image)

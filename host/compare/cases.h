@@ -17,6 +17,10 @@ void make_session_case(struct dice *d, bool damaged, struct script *s, struct ta
 /* Any handle and table, then calls of every function that takes them. */
 void make_handle_case(struct dice *d, bool damaged, struct script *s, struct tally *t);
 
+/* A quote to a row in any state, whole or cut into pieces; where damaged, the
+ * row's state or tradable is a byte outside its list. */
+void make_quote_case(struct dice *d, bool damaged, struct script *s, struct tally *t);
+
 /* An image restored, then stepped on from, saved and listed. */
 void make_image_case(struct dice *d, bool damaged, struct script *s, struct tally *t);
 

@@ -65,7 +65,7 @@ static bool run_cases(struct dice *d, case_maker *make, bool damaged, unsigned t
     return true;
 }
 
-/* One round: 35 damaged inputs and some four hundred packets. */
+/* One round: 36 damaged inputs and some four hundred packets. */
 static bool run_round(uint64_t seed)
 {
     struct dice d = dice_seeded(seed);
@@ -78,7 +78,9 @@ static bool run_round(uint64_t seed)
            run_cases(&d, make_image_case, false, 1) &&
            run_cases(&d, make_image_case, true, 5) &&
            run_cases(&d, make_record_case, false, 1) &&
-           run_cases(&d, make_record_case, true, 1);
+           run_cases(&d, make_record_case, true, 1) &&
+           run_cases(&d, make_quote_case, false, 3) &&
+           run_cases(&d, make_quote_case, true, 1);
 }
 
 static int run_rounds(uint64_t seed, uint64_t rounds)

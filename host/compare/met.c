@@ -1,5 +1,7 @@
 #include "met.h"
 
+#include "oracle.h"
+
 #include <stdio.h>
 #include <string.h>
 
@@ -28,6 +30,19 @@ static const struct {
     [MET_WRITE] = {"write", 4, {0, 20, 25, 26}},
     [MET_LINE] = {"line", 3, {0, 20, 25}},
     [MET_FIND] = {"find", 2, {0, 20}},
+};
+
+static const char *const state_names[MET_STATES] = {
+    "none", "B", "S", "H", "T", "I", "O", "R", "X", "other"};
+
+/* Whether a quote can be taken, and refused with 14, in each of these states. */
+static const struct {
+    const char *name;
+    bool can[MET_STATES];
+} quotes[MET_QUOTES] = {
+    [MET_TAKEN] = {"quote", {0, 1, 1, 0, 1, 0, 0, 0, 0, 0}},
+    [MET_STATE_WRONG] = {"quote 14 Y", {1, 0, 0, 1, 0, 1, 1, 1, 1, 1}},
+    [MET_UNTRADABLE] = {"quote 14 N", {1, 1, 1, 1, 1, 1, 1, 1, 1, 1}},
 };
 
 static enum met_row row_of(const struct call *c, uint32_t answer)
@@ -74,6 +89,52 @@ static unsigned find_of(uint32_t id, uint32_t answer, const struct world *plain)
     return rows_with(table, used, NELQUBAT_MAX_ROWS, id) > 0 ? 3 : 2;
 }
 
+/* The place of a row's state among the names. */
+static unsigned state_of(const uint8_t *row)
+{
+    unsigned i = 1;
+    if (nelqubat_row_state(row) == 0)
+        return 0;
+    while (i < MET_STATES - 1 && state_names[i][0] != nelqubat_row_state(row))
+        i++;
+    return i;
+}
+
+/* Counts a quote by its row, whose state and tradable it left as they were. */
+static void count_quote(struct met *m, uint32_t id, bool taken, const struct world *plain)
+{
+    const uint8_t *handle = plain->handle + GUARD_BYTES, *table = plain->table + GUARD_BYTES;
+    const uint8_t *row = nelqubat_found_row(
+        table, oracle_find(handle, NELQUBAT_HANDLE_BYTES, table, NELQUBAT_TABLE_BYTES, id));
+    enum met_quote quote = MET_TAKEN;
+    if (row == NULL)
+        return;
+    if (!taken)
+        quote = nelqubat_row_tradable(row) == 'Y' ? MET_STATE_WRONG : MET_UNTRADABLE;
+    m->quotes[quote][state_of(row)]++;
+}
+
+/* A message that a step told. */
+static void count_message(struct met *m, const struct world *plain)
+{
+    const uint8_t *record = plain->small + GUARD_BYTES;
+    count_letter(m->letters[0], nelqubat_record_letter(record));
+    if (strchr("qQbaBA", nelqubat_record_letter(record)) != NULL)
+        count_quote(m, nelqubat_record_id(record), true, plain);
+}
+
+/* A step that refused. A quote's id is read where its packet lay whole in the
+ * piece: bytes were taken and none were held before. */
+static void count_refused(struct met *m, uint32_t answer, const struct world *plain,
+                          const uint8_t *piece, size_t held)
+{
+    enum { PACKET_ID = 14 };
+    m->kinds[NELQUBAT_REFUSED]++;
+    if (nelqubat_refusal(answer) == NELQUBAT_REFUSED_NOT_TRADING &&
+        nelqubat_taken(answer) != 0 && held == 0)
+        count_quote(m, (uint32_t)nelqubat_get(piece + PACKET_ID, 4), false, plain);
+}
+
 /* What a call that is done answers: a kind, a letter, a sort of line or row. */
 static void count_done(struct met *m, const struct call *c, uint32_t answer,
                        const struct world *plain, const uint8_t *input)
@@ -82,7 +143,7 @@ static void count_done(struct met *m, const struct call *c, uint32_t answer,
     if (c->op == CALL_STEP)
         m->kinds[nelqubat_kind(answer)]++;
     if (c->op == CALL_STEP && nelqubat_kind(answer) == NELQUBAT_MESSAGE)
-        count_letter(m->letters[0], small[0]);
+        count_message(m, plain);
     if (c->op == CALL_READ)
         count_letter(m->letters[1], small[0]);
     if (c->op == CALL_WRITE)
@@ -94,7 +155,7 @@ static void count_done(struct met *m, const struct call *c, uint32_t answer,
 }
 
 void met_count(struct met *m, const struct call *c, uint32_t answer,
-               const struct world *plain, const uint8_t *input)
+               const struct world *plain, const uint8_t *input, size_t held)
 {
     unsigned refusal = nelqubat_refusal(answer);
     if (refusal < MET_REFUSALS)
@@ -102,7 +163,7 @@ void met_count(struct met *m, const struct call *c, uint32_t answer,
     if (refusal == 0)
         count_done(m, c, answer, plain, input);
     else if (c->op == CALL_STEP)
-        m->kinds[NELQUBAT_REFUSED]++;
+        count_refused(m, answer, plain, input, held);
 }
 
 /* One line of the table. A cell that cannot be met must be empty, and where
@@ -174,6 +235,14 @@ static bool report_letters(const char *call, const unsigned long *counts, bool a
     return end_line(&l);
 }
 
+static bool report_quotes(const struct met *m, enum met_quote quote, bool all)
+{
+    struct line l = begin_line(quotes[quote].name, all);
+    for (size_t i = 0; i < MET_STATES; i++)
+        add_cell(&l, state_names[i], m->quotes[quote][i], quotes[quote].can[i]);
+    return end_line(&l);
+}
+
 bool met_report(const struct met *m, bool all)
 {
     static const char *const letter_calls[MET_LETTER_CALLS] = {"step", "read", "write"};
@@ -183,6 +252,8 @@ bool met_report(const struct met *m, bool all)
     good &= report_names("step", kind_names, m->kinds, MET_KINDS, all);
     for (size_t i = 0; i < MET_LETTER_CALLS; i++)
         good &= report_letters(letter_calls[i], m->letters[i], all);
+    for (unsigned quote = 0; quote < MET_QUOTES; quote++)
+        good &= report_quotes(m, (enum met_quote)quote, all);
     good &= report_names("line", line_names, m->lines, MET_LINES, all);
     return report_names("find", find_names, m->finds, MET_FINDS, all) && good;
 }

@@ -195,12 +195,13 @@ static bool ends_packet(uint32_t answer)
 static bool call_both(struct pair *p, const struct call *c, const uint8_t *library_input,
                       const uint8_t *plain_input, size_t n)
 {
+    size_t held = nelqubat_handle_held(p->plain.handle + GUARD_BYTES);
     uint32_t got;
     p->doing = c->op;
     p->calls++;
     got = make_call(&library_calls, &p->library, c, library_input, n);
     p->answer = make_call(&plain_calls, &p->plain, c, plain_input, n);
-    met_count(&p->met, c, p->answer, &p->plain, plain_input);
+    met_count(&p->met, c, p->answer, &p->plain, plain_input, held);
     if (c->op == CALL_STEP && ends_packet(p->answer))
         p->packets++;
     if (c->op == CALL_SAVE)

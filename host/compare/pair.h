@@ -61,12 +61,20 @@ enum met_row {
 
 enum { MET_REFUSALS = 27, MET_KINDS = 9, MET_LETTERS = 10, MET_LETTER_CALLS = 3, MET_LINES = 4, MET_FINDS = 4 };
 
+/* What became of a quote to a row: taken, or refused with 14 although tradable
+ * is Y, or with another tradable. */
+enum met_quote { MET_TAKEN, MET_STATE_WRONG, MET_UNTRADABLE, MET_QUOTES };
+
+/* The row's state: none yet, one of the eight, or a byte that is no state. */
+enum { MET_STATES = 10 };
+
 struct met {
     unsigned long refusals[MET_ROWS][MET_REFUSALS];
     unsigned long kinds[MET_KINDS];                      /* of a step's answer */
     unsigned long letters[MET_LETTER_CALLS][MET_LETTERS]; /* told by a step, read, written */
     unsigned long lines[MET_LINES];                      /* the first, a row's, the last, past it */
     unsigned long finds[MET_FINDS];                      /* a row alone, of several, none, one out of use */
+    unsigned long quotes[MET_QUOTES][MET_STATES];        /* by the state of the row they speak to */
 };
 
 struct pair {

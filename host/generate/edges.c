@@ -134,7 +134,8 @@ void edge_record(struct dice *d, uint8_t *record)
 void edge_row(struct dice *d, uint8_t *row)
 {
     static const struct edge edges[] = {
-        {ROW_STATE, 4, {0, 'T', 'S', 'U'}},     {ROW_CONDITION, 4, {' ', 'X', 'Z', 0}},
+        {ROW_STATE, 8, {0, 'A', 'B', 'C', 'R', 'S', 'T', 'U'}},
+        {ROW_CONDITION, 4, {' ', 'X', 'Z', 0}},
         {ROW_SIDES, 5, {0, 1, 2, 3, 4}},        {ROW_GAP, 2, {0, 1}},
         {ROW_BID + 4, 3, {0, 0x7F, 0x80}},      {ROW_ASK + 4, 3, {0, 0x7F, 0x80}},
         {ROW_BID, 1, {1}},                      {ROW_BID + 19, 1, {1}},

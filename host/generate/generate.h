@@ -92,6 +92,12 @@ size_t make_length(struct dice *d, size_t exact);
 void put_packet_for(struct dice *d, const struct plain_reader *r,
                     const uint8_t *table, struct bytes *s);
 
+/* A handle that is logged in and holds nothing, a row of its table with any
+ * state and tradable, and the packet of a quote to that row. Where blurred, one
+ * of the two is a byte outside its list. */
+void make_quoted(struct dice *d, bool blurred, struct plain_reader *r,
+                 uint8_t *table, struct bytes *s);
+
 enum image_damage {
     IMAGE_EMPTY, IMAGE_PART, IMAGE_LONG, IMAGE_CHECK, IMAGE_NUMBER, IMAGE_COUNT,
     IMAGE_VERSION, IMAGE_NEXT_RANGE, IMAGE_NEXT_DIFFERS, IMAGE_BLOCK_DROPPED,

@@ -20,7 +20,10 @@ void make_row(struct dice *d, uint32_t id, uint8_t *row)
     memset(row, 0, PLAIN_ROW_BYTES);
     memcpy(row, bytes + 11, ROW_STATE);
     memcpy(row + ROW_TRACKING, bytes + 1, 10);
-    row[ROW_STATE] = dice_chance(d, 60) ? 'T' : dice_chance(d, 20) ? 0 : pick(d, states);
+    if (dice_chance(d, 60))
+        row[ROW_STATE] = pick(d, quoting_states);
+    else if (!dice_chance(d, 20))
+        row[ROW_STATE] = pick(d, states);
     row[ROW_SIDES] = (uint8_t)dice_below(d, 4);
     row[ROW_CONDITION] = row[ROW_SIDES] ? pick(d, conditions) : ' ';
     if (row[ROW_SIDES] & 1)
@@ -309,4 +312,34 @@ void put_packet_for(struct dice *d, const struct plain_reader *r,
             m.id = (uint32_t)get_number(row, 4);
         put_message(s, &m);
     }
+}
+
+/* Each state as often as the others, and none yet; where blurred, the state or
+ * the tradable is a byte outside its list. */
+static void set_trading(struct dice *d, bool blurred, uint8_t *row)
+{
+    row[ROW_STATE] = dice_chance(d, 10) ? 0 : pick(d, states);
+    row[ROW_TRADABLE] = pick(d, tradables);
+    if (blurred && dice_chance(d, 70))
+        set_outside(d, &row[ROW_STATE], states);
+    else if (blurred)
+        set_outside(d, &row[ROW_TRADABLE], tradables);
+}
+
+void make_quoted(struct dice *d, bool blurred, struct plain_reader *r,
+                 uint8_t *table, struct bytes *s)
+{
+    struct plain_message m;
+    uint8_t *row;
+    do
+        make_reader(d, true, r, table);
+    while (r->rows == 0);
+    r->logged_in = true;
+    r->used = 0;
+    r->next = 1 + pick_number(d, PLAIN_MAX_NUMBER - 2);
+    row = table + dice_below(d, r->rows) * PLAIN_ROW_BYTES;
+    set_trading(d, blurred, row);
+    make_message(d, (enum plain_kind)dice_between(d, PLAIN_BOTH_SHORT, PLAIN_ONE_LONG), &m);
+    m.id = (uint32_t)get_number(row, 4);
+    put_message(s, &m);
 }

@@ -1,6 +1,25 @@
 /* The generators, run through the plain reader: what they make is what they say. */
 #include "plaintest.h"
 
+static bool takes_quote(unsigned state)
+{
+    return state == 'B' || state == 'S' || state == 'T';
+}
+
+/* How many quotes were taken, by the state of their rows. */
+static unsigned long quoted[256];
+
+static void count_quoted(const struct bench *b, const struct plain_answer *a)
+{
+    const uint8_t *row;
+    if (a->kind != PLAIN_EVENT || a->event != PLAIN_MESSAGE ||
+        a->message.kind < PLAIN_BOTH_SHORT || a->message.kind > PLAIN_ONE_LONG)
+        return;
+    plain_find(&b->r, b->table, sizeof b->table, a->message.id, &row);
+    EXPECT(row != NULL, "the row of a quote that was taken");
+    quoted[row[ROW_STATE]]++;
+}
+
 /* Runs bytes in random pieces until they run out or the reader stops; the
  * refusal, or 0. */
 static uint32_t run(struct dice *d, struct bench *b, const struct bytes *s)
@@ -12,11 +31,19 @@ static uint32_t run(struct dice *d, struct bench *b, const struct bytes *s)
         a = step(b, s->at + at, n);
         EXPECT(a.taken <= n && (a.kind != PLAIN_MORE || a.taken == n), "bytes taken");
         at += a.taken;
+        count_quoted(b, &a);
     } while (a.kind == PLAIN_EVENT || (a.kind == PLAIN_MORE && at < s->n));
     return a.refusal;
 }
 
 static uint8_t session_space[200000];
+
+static void expect_quoted(void)
+{
+    for (unsigned state = 0; state < 256; state++)
+        EXPECT(takes_quote(state) ? quoted[state] > 100 : quoted[state] == 0,
+               "the states in which true sessions quote");
+}
 
 static void true_sessions(void)
 {
@@ -38,6 +65,28 @@ static void true_sessions(void)
         EXPECT(plain_same_reader(&whole.r, &cut.r) &&
                    memcmp(whole.table, cut.table, sizeof cut.table) == 0, "cut and whole");
     }
+    expect_quoted();
+}
+
+/* A damage that spoils a quote leads to 14, in every session with a quote. */
+static void spoilt_quotes(enum session_damage kind)
+{
+    unsigned long spoilt = 0;
+    for (uint64_t seed = 0; seed < 200; seed++) {
+        struct dice d = dice_seeded(seed);
+        struct session_plan plan = random_plan(&d);
+        struct bytes s = {session_space, 0, sizeof session_space};
+        struct bench b;
+        size_t n;
+        plan.first = 1;
+        make_session(&d, &plan, &s);
+        n = s.n;
+        damage_session(&d, kind, &s);
+        start(&b);
+        EQUAL(run(NULL, &b, &s), s.n == n ? 0 : 14, "a spoilt quote");
+        spoilt += s.n != n;
+    }
+    EXPECT(spoilt > 100, "quotes are spoilt");
 }
 
 static void damaged_sessions(void)
@@ -118,6 +167,29 @@ static void made_readers(void)
            "the made packets reach the rows' refusals");
 }
 
+/* A quote to a row in any state is taken by the rule alone. */
+static void made_quotes(void)
+{
+    unsigned long seen[2] = {0};
+    for (uint64_t seed = 0; seed < 4000; seed++) {
+        struct dice d = dice_seeded(seed);
+        struct bench b;
+        struct plain_message m;
+        uint8_t space[PLAIN_PACKET_BYTES];
+        struct bytes s = {space, 0, sizeof space};
+        const uint8_t *row;
+        bool taken;
+        make_quoted(&d, seed % 4 == 0, &b.r, b.table, &s);
+        EQUAL(plain_read(s.at + 3, s.n - 3, &m), 0, "a made quote");
+        plain_find(&b.r, b.table, sizeof b.table, m.id, &row);
+        EXPECT(row != NULL, "the row of a made quote");
+        taken = takes_quote(row[ROW_STATE]) && row[ROW_TRADABLE] == 'Y';
+        EQUAL(step(&b, s.at, s.n).refusal, taken ? 0 : 14, "a made quote's refusal");
+        seen[taken]++;
+    }
+    EXPECT(seen[0] > 400 && seen[1] > 400, "made quotes are taken and refused");
+}
+
 static void made_images(void)
 {
     static uint8_t space[PLAIN_IMAGE_BYTES + PLAIN_BLOCK_BYTES], again[PLAIN_IMAGE_BYTES];
@@ -145,8 +217,11 @@ static void made_images(void)
 void test_generators(void)
 {
     true_sessions();
+    spoilt_quotes(DAMAGE_NOT_TRADING);
+    spoilt_quotes(DAMAGE_UNTRADABLE);
     damaged_sessions();
     made_messages();
     made_readers();
+    made_quotes();
     made_images();
 }
