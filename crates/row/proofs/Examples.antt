@@ -10,7 +10,7 @@ use Rattle.message.specs.Layout.{bytesFor}
 use Rattle.message.specs.Letters.{listed, states}
 use Rattle.message.specs.declared.Side.the-variants.{Bid, Ask}
 use Rattle.message.specs.declared.ShortNumbers.{ShortNumbers}
-use Rattle.row.specs.Fields.{rowSize, sidesOf, priceOf, numbersOf, seenWith, stateTakesQuote}
+use Rattle.row.specs.Fields.{rowSize, sidesOf, priceOf, numbersOf, seenWith, quotingStates, stateTakesQuote}
 use Rattle.row.specs.Changes.{changed, widened, sidesChanges, quoteChanges}
 use Rattle.row.specs.declared.Sides.the-variants.{One}
 use Rattle.row.specs.declared.Quote.{Quote}
@@ -48,3 +48,8 @@ ask-left = refl
 quoting : map stateTakesQuote (0 ∷ states) ≡ false ∷ true ∷ true ∷ false ∷ true ∷ false ∷ false ∷ false ∷ false ∷ []
 unfolding listed
 quoting = refl
+
+-- and no letter takes one that is no state
+quoting-listed : map (listed states) quotingStates ≡ true ∷ true ∷ true ∷ []
+unfolding listed
+quoting-listed = refl
