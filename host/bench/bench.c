@@ -116,11 +116,22 @@ static void make_messages(size_t scale)
 
 /* The turns. */
 
+/* A reader that stops early has less to do, so that its count says nothing. */
+static void need_whole(const char *reader_name, size_t at)
+{
+    if (at == work.session.n)
+        return;
+    fprintf(stderr, "bench: %s stops at byte %zu of %zu of its session\n", reader_name, at,
+            work.session.n);
+    exit(2);
+}
+
 static void read_library_session(void)
 {
     uint8_t event[NELQUBAT_RECORD_BYTES];
+    size_t at = 0;
     nelqubat_start(handle, sizeof handle, table, sizeof table);
-    for (size_t at = 0; at < work.session.n;) {
+    while (at < work.session.n) {
         size_t end = at + work.piece < work.session.n ? at + work.piece : work.session.n;
         uint32_t a;
         do {
@@ -131,14 +142,16 @@ static void read_library_session(void)
         if (nelqubat_kind(a) != NELQUBAT_MORE)
             break;
     }
+    need_whole("the library", at);
     work.units = (size_t)nelqubat_handle_next(handle) - 1;
 }
 
 static void read_plain_session(void)
 {
     struct plain_answer a;
+    size_t at = 0;
     plain_start(&reader, plain_table, sizeof plain_table);
-    for (size_t at = 0; at < work.session.n;) {
+    while (at < work.session.n) {
         size_t end = at + work.piece < work.session.n ? at + work.piece : work.session.n;
         do {
             plain_step(&reader, plain_table, sizeof plain_table, work.session.at + at,
@@ -148,6 +161,7 @@ static void read_plain_session(void)
         if (a.kind != PLAIN_MORE)
             break;
     }
+    need_whole("the plain reader", at);
     work.units = (size_t)reader.next - 1;
 }
 
