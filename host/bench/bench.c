@@ -103,6 +103,15 @@ static void make_table(size_t scale)
     work.units = scale / 50;
 }
 
+/* The same image with its last check wrong: every block's check is made, and
+ * nothing else is done. A unit is one block. */
+static void make_bad_check(size_t scale)
+{
+    make_table(scale);
+    work.image[work.image_n - 1] ^= 1;
+    work.units *= work.image_n / NELQUBAT_BLOCK_BYTES;
+}
+
 static void make_messages(size_t scale)
 {
     struct dice d = dice_seeded(7);
@@ -192,6 +201,30 @@ static void restore_plain(void)
         plain_restore(&reader, plain_table, sizeof plain_table, work.image, work.image_n);
 }
 
+static void need_bad_check(const char *reader_name, unsigned refusal)
+{
+    if (refusal == NELQUBAT_REFUSED_CHECK)
+        return;
+    fprintf(stderr, "bench: %s answers %u to a wrong check\n", reader_name, refusal);
+    exit(2);
+}
+
+static void check_library(void)
+{
+    for (size_t i = 0; i < work.units; i += work.image_n / NELQUBAT_BLOCK_BYTES)
+        need_bad_check("the library",
+                       nelqubat_refusal(nelqubat_restore(handle, sizeof handle, table, sizeof table,
+                                                         work.image, work.image_n)));
+}
+
+static void check_plain(void)
+{
+    for (size_t i = 0; i < work.units; i += work.image_n / NELQUBAT_BLOCK_BYTES)
+        need_bad_check("the plain reader",
+                       (unsigned)plain_restore(&reader, plain_table, sizeof plain_table, work.image,
+                                               work.image_n));
+}
+
 static void read_library(void)
 {
     uint8_t record[NELQUBAT_RECORD_BYTES];
@@ -237,6 +270,8 @@ static const struct task {
      read_library_session, read_plain_session},
     {"save", "saving 256 rows", "tables", make_table, save_library, save_plain},
     {"restore", "restoring 256 rows", "tables", make_table, restore_library, restore_plain},
+    {"check", "the checks of 65 blocks, the last one wrong", "blocks", make_bad_check, check_library,
+     check_plain},
     {"read", "reading messages of every letter", "messages", make_messages, read_library, read_plain},
     {"write", "writing messages of every letter", "messages", make_messages, write_library, write_plain},
 };

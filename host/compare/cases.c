@@ -316,15 +316,26 @@ void make_quote_case(struct dice *d, bool damaged, struct script *s, struct tall
 
 /* Images. */
 
+/* Any bytes, or bytes that sum up to the most, with checks that are right. */
+static void make_any_blocks(struct dice *d, struct bytes *image)
+{
+    image->n = NELQUBAT_BLOCK_BYTES * dice_between(d, 1, 4);
+    dice_fill(d, image->at, image->n);
+    if (dice_chance(d, 50)) {
+        uint8_t *other = &image->at[dice_below(d, image->n)], value = *other;
+        memset(image->at, 255, image->n);
+        *other = value;
+    }
+    seal_image(image);
+}
+
 static void make_any_image(struct dice *d, bool damaged, struct bytes *image)
 {
     make_image(d, image);
     if (!damaged)
         return;
-    if (dice_chance(d, 10)) { /* any bytes with checks that are right */
-        image->n = NELQUBAT_BLOCK_BYTES * dice_between(d, 1, 4);
-        dice_fill(d, image->at, image->n);
-        seal_image(image);
+    if (dice_chance(d, 10)) {
+        make_any_blocks(d, image);
     } else if (dice_chance(d, 30)) {
         edge_image(d, image);
     } else {

@@ -1,3 +1,5 @@
 pub mod Joins
+pub mod Sums
+pub mod Columns
 pub mod Checks
 pub mod Blocks

@@ -1,9 +1,10 @@
 // A block of 512 bytes: its head, and the check of all that stands before the check.
 ghost use mathlib.Core.Path.{_≡_};
-ghost use Prim.Native.Nat.{_+_, _≤_};
+ghost use Prim.Native.Nat.{_+_, _-_, _≤_, _<_};
 ghost use lib.ListN.{length};
 ghost use Rattle.field.specs.Bytes.{part, overlay, bytesBe};
 ghost use Rattle.block.specs.Block.{blockSize, headSize, checkedSize, checkOf, headBytes, headAt, sameHead, checkKeeps};
+ghost use Rattle.block.specs.Shapes.{strips, stripSize, columnSum};
 
 pub const BLOCK_SIZE: usize = 512;
 
@@ -16,6 +17,14 @@ pub const BODY_SIZE: usize = CHECKED_SIZE - HEAD_SIZE;
 
 pub const MODULUS: usize = 65521;
 
+// A block's sum, which is 33,227,775 at most.
+type Sum = u32;
+
+// The checked bytes are so many strips of one length, one after the other.
+const STRIPS: usize = 15;
+
+const STRIP_SIZE: usize = CHECKED_SIZE / STRIPS;
+
 pub struct Head {
     // The block's place, from 0.
     pub number: u16,
@@ -25,18 +34,35 @@ pub struct Head {
     pub next: u64,
 }
 
-// The check of the block at `at`. Its sum stays far below the limit of a usize, so one remainder will do.
+// The bytes at one place of every strip, the first at `at`, each times its weight. Two running sums, of bytes and of those sums, go from the
+// last strip to the first; columns side by side do the same, so that the compiler takes several at a time.
+fn column_sum(s: &[u8], at: usize, weight: usize) -> usize
+    requires { ⌜ (at + (checkedSize - stripSize) < length (now s)) × (weight ≤ stripSize) ⌝ }
+    ensures { λ r. ⌜ r ≡ columnSum stripSize (now (s .entry)) at weight strips ⌝ }
+{
+    let mut bytes: u16 = 0;
+    let mut sums: u16 = 0;
+    let mut strip = STRIPS;
+    while strip > 0 {
+        strip -= 1;
+        sums += bytes;
+        bytes += field::read1(s, at + strip * STRIP_SIZE) as u16;
+    }
+    weight * (bytes as usize) + STRIP_SIZE * (sums as usize)
+}
+
+// The check of the block at `at`. Its sum has room, so that one remainder will do.
 pub fn check(s: &[u8], at: usize) -> u16
     requires { ⌜ at + checkedSize ≤ length (now s) ⌝ }
     ensures { λ r. ⌜ r ≡ checkOf (part (now (s .entry)) at checkedSize) ⌝ }
 {
-    let mut sum: usize = 0;
+    let mut sum: Sum = 0;
     let mut i = 0;
-    while i < CHECKED_SIZE {
-        sum += (i + 1) * (field::read1(s, at + i) as usize);
+    while i < STRIP_SIZE {
+        sum += column_sum(s, at + i, i + 1) as Sum;
         i += 1;
     }
-    (sum % MODULUS) as u16
+    (sum as usize % MODULUS) as u16
 }
 
 // Does the block at `at` hold its own check?

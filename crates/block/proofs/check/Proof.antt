@@ -1,45 +1,62 @@
 -- `block::check` meets its contract.
 -- Assumes nothing.
 use borrow.Author.Needs.{needs}
-use mathlib.Core.Path.{_≡_, ap, _∙_}
-use Prim.Native.Nat.{ℕ, _≤_, _-_, _*_, _%_}
+use mathlib.Core.Path.{_≡_, refl, ap, _∙_}
+use Prim.Native.Nat.{ℕ, _+_, _-_, _%_, _≤_}
 use native.Mathlib.Omega.{arith}
-use Rattle.field.specs.Bytes.{part}
-use Rattle.block.specs.Block.{checkedSize, weighted, checkOf, modulus}
-use Rattle.block.proofs.Checks.{weighted-none, weighted-turn, summand}
+use Rattle.block.specs.Block.{modulus, checkOf}
+use Rattle.block.specs.Shapes.{stripSize}
+use Rattle.block.proofs.Sums.{upTo, greatest}
+use Rattle.block.proofs.Columns.{summed, summed-all, summed-turn, summed-most, turn-most}
 use Rattle.block.proofs.check.Statement.{statement}
 use Rattle.block.proofs.check.Tie as tie
 
 abbrev Inv-loop : tie.InvT-loop
-Inv-loop s at sum₀ i₀ sum i = (i ≤ checkedSize) × (sum ≡ weighted 1 (part s at i)) × (sum ≤ i * (checkedSize * 255))
+Inv-loop s at sum₀ i₀ sum i = (i ≤ stripSize) × (sum ≡ summed s at i)
 
 abbrev μ-loop : tie.MeasureT-loop
-μ-loop s at sum₀ i₀ sum i = checkedSize - i
+μ-loop s at sum₀ i₀ sum i = stripSize - i
 
 loop-holds : tie.Need-loop-holds Inv-loop μ-loop
-loop-holds c = (search needs, weighted-none _ _, search needs)
+unfolding upTo
+loop-holds c = (search needs, refl)
 
-mul-sum : tie.Need-mul-sum Inv-loop μ-loop
-mul-sum c = let q = summand (c .before .before .loop .i) (c .read1 .result) (search needs) (search needs) in omega arith
+-- the sum after a turn, by which each of its operations fits
+within : (c : tie.After-column-sum Inv-loop μ-loop) → c .before .before .loop .sum + c .column-sum .result ≤ greatest
+within c =
+    let a = c .before .before .before .before .args in
+    let l = c .before .before .loop in
+    turn-most (a .s .now) (a .at) (search needs) (l .i) (search needs) (search needs) (c .column-sum .ensures) (l .inv .1)
 
-add-sum-2 : tie.Need-add-sum-2 Inv-loop μ-loop
-add-sum-2 c = let q = summand (c .before .before .loop .i) (c .read1 .result) (search needs) (search needs) in omega arith
+cast-sum : tie.Need-cast-sum Inv-loop μ-loop
+cast-sum c = let q = within c in omega arith
+
+add-sum : tie.Need-add-sum Inv-loop μ-loop
+add-sum c = let q = within c in omega arith
 
 loop-again : tie.Need-loop-again Inv-loop μ-loop
 loop-again c =
-    let s = c .before .before .before .before .args in
+    let a = c .before .before .before .before .args in
     let l = c .before .before .loop in
-    let q = summand (l .i) (c .read1 .result) (search needs) (search needs) in
-    (search needs, weighted-turn (s .s .now) (s .at) (l .i) (c .read1 .result) (l .sum) (search needs) (search needs) (c .read1 .ensures) (l .inv .1), omega arith)
+    (search needs, summed-turn (a .s .now) (a .at) (search needs) (l .i) (c .column-sum .ensures) (l .inv .1))
+
+cast-result : tie.Need-cast-result Inv-loop μ-loop
+cast-result c =
+    let a = c .before .before .before .args in
+    let l = c .before .loop in
+    let q = summed-most (a .s .now) (a .at) (search needs) (l .i) (search needs) (search needs) in
+    let e = l .inv .1 in
+    omega arith
 
 returns : tie.Need-returns Inv-loop μ-loop
 unfolding checkOf
 returns c =
-    let s = c .before .before .before .args in
-    let e : c .before .loop .i ≡ checkedSize = omega arith in
-    ap (λ (n : ℕ). n % modulus) (c .before .loop .inv .1 ∙ ap (λ (i : ℕ). weighted 1 (part (s .s .now) (s .at) i)) e)
+    let a = c .before .before .before .args in
+    let l = c .before .loop in
+    let e : l .i ≡ stripSize = omega arith in
+    ap (λ (n : ℕ). n % modulus) (l .inv .1 ∙ ap (summed (a .s .now) (a .at)) e ∙ summed-all (a .s .now) (a .at) (search needs))
 
 pub check-spec : {M : Type 1} → statement M
 check-spec =
     tie.close
-    (tie.spec Inv-loop μ-loop loop-holds (λ c. search needs) (λ c. search needs) (λ c κs. search needs) (λ c. search needs) mul-sum add-sum-2 (λ c. search needs) (λ c. search needs) loop-again (λ c. search needs) returns)
+    (tie.spec Inv-loop μ-loop loop-holds (λ c. search needs) (λ c. search needs) (λ c κs. search needs) cast-sum add-sum (λ c. search needs) (λ c. search needs) loop-again cast-result (λ c. search needs) returns)
