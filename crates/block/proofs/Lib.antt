@@ -1,5 +1,6 @@
 pub mod Joins
-pub mod Sums
-pub mod Columns
+mod Sums
+mod Columns
 pub mod Checks
 pub mod Blocks
+mod Examples
