@@ -1,16 +1,22 @@
 -- The laws of numbers written in digits, each over the base and the width; bytes are the digits of base 256.
 -- Assumes nothing.
 use mathlib.Core.Path.{_≡_, refl, sym, ap, _∙_}
+use mathlib.Core.Bool.{true, false}
 use mathlib.Core.List.{List, [], _∷_, _++_}
 use Prim.Native.Nat.{ℕ, zero, suc, _+_, _*_, _/_, _%_, _^_, _≤_, _<_}
 use native.Mathlib.Nat.{zero-add, suc-add, add-assoc, add-mul, mul-assoc, mod-eq-of-lt, mod-lt, one-le-pow, div-div-eq-div-mul, mod-one, pow-zero, pow-succ', zero-mul, mul-add-div-right, mul-add-mod-self-right, div-add-mod', add-comm, div-one}
+use native.Mathlib.Decide.{decLt}
 use native.Mathlib.Omega.{arith}
+use mir.Val.{Fits}
+use mir.Syntax.{w8}
 use lib.Arith.{digits-lt, digits-div, mod-mul}
-use lib.Dec.{lit<}
+use lib.Dec.{lit<, leb, ltb}
+use borrow.Author.Tests.{le-leb, lt-leb, lt-ltb, le-ltb}
 use lib.Pow.{pow-add}
 use lib.ListN.{length, getD, set, take, drop, replicate, length-append}
 use lib.Seq.{getD-drop}
 use Rattle.field.specs.Bytes.{part, overlay, value, digits, Digits, be, bytesBe, turned, Bytes}
+use Rattle.field.specs.Limits.{latestTime, priceEnd, timeInRange, priceInRange}
 use Rattle.field.proofs.Parts.{part-length, part-split, part-one, part-none, part-overlay, overlay-own, overlay-one, overlay-next}
 
 -- ---- any base
@@ -226,3 +232,70 @@ pub rewritten : (xs : List ℕ) (at n : ℕ) → Bytes xs → at + n ≤ length 
 rewritten xs at n b h =
     ap (overlay xs at) (rw (part-length xs at n h) at (digits-value 256 (lit< tt) (part xs at n) (part-bytes xs at n b)))
     ∙ overlay-own xs at n h
+
+-- ---- a field carried from one place to another
+
+-- what the code knows of lent bytes: each of them fits in eight bits
+abbrev pub Lent : List ℕ → Type 0
+Lent s = (i : ℕ) → Fits w8 (getD s i 0)
+
+pub lent-bytes : (s : List ℕ) → Lent s → Bytes s
+lent-bytes s k i = let g = k i in omega arith
+
+-- a field's number, written as wide as the field, is the field
+pub rewrites : (n : ℕ) (s : List ℕ) (from : ℕ) → Bytes s → from + n ≤ length s → bytesBe n (be (part s from n)) ≡ part s from n
+rewrites n s from b h = rw (part-length s from n h) at (digits-value 256 (lit< tt) (part s from n) (part-bytes s from n b))
+
+-- read in one place and written in another
+pub carried : (n : ℕ) (xs : List ℕ) (at : ℕ) (s : List ℕ) (from : ℕ) {v : ℕ} {ys : List ℕ} → Lent s → from + n ≤ length s → v ≡ be (part s from n)
+    → ys ≡ overlay xs at (bytesBe n v) → ys ≡ overlay xs at (part s from n)
+carried n xs at s from k h e w = w ∙ ap (λ (u : ℕ). overlay xs at (bytesBe n u)) e ∙ ap (overlay xs at) (rewrites n s from (lent-bytes s k) h)
+
+-- and written in two halves
+pub carried-halves : (m n : ℕ) (xs : List ℕ) (at : ℕ) (s : List ℕ) (from : ℕ) {v : ℕ} {ys zs : List ℕ} → Lent s → from + (m + n) ≤ length s
+    → at + (m + n) ≤ length xs → v ≡ be (part s from (m + n)) → ys ≡ overlay xs at (bytesBe m (v / 256 ^ n)) → zs ≡ overlay ys (at + m) (bytesBe n (v % 256 ^ n))
+    → zs ≡ overlay xs at (part s from (m + n))
+carried-halves m n xs at s from k h g e p q = carried (m + n) xs at s from k h e (write-joins m n xs at _ g p q)
+
+-- ---- a time by its halves
+
+module _ (s : List ℕ) (at : ℕ) {high : ℕ} (k : Lent s) (h : at + 8 ≤ length s) (e : high ≡ be (part s at 4)) where
+  time-halves : be (part s at 8) ≡ high * 256 ^ 4 + be (part s (at + 4) 4)
+  time-halves = be-split s at 4 4 (omega arith) ∙ ap (λ (v : ℕ). v * 256 ^ 4 + be (part s (at + 4) 4)) (sym e)
+
+  low-below : be (part s (at + 4) 4) < 256 ^ 4
+  low-below = rw (part-length s (at + 4) 4 (omega arith)) at (value-below 256 (lit< tt) (part s (at + 4) 4) (part-bytes s (at + 4) 4 (lent-bytes s k)))
+
+  pub time-early : high < 20116 → true ≡ timeInRange (be (part s at 8))
+  time-early l = sym (le-leb (be (part s at 8)) latestTime (omega (arith, time-halves, low-below)))
+
+  pub time-late : 20116 < high → false ≡ timeInRange (be (part s at 8))
+  time-late l = sym (lt-leb (be (part s at 8)) latestTime (omega (arith, time-halves)))
+
+  pub time-last : {low : ℕ} → 20116 ≤ high → high ≤ 20116 → low ≡ be (part s (at + 4) 4) → leb low 2437873663 ≡ timeInRange (be (part s at 8))
+  time-last {low} a b f = by (decLt 2437873663 low)
+    where
+      first : high ≡ 20116
+      first = omega arith
+
+      split : be (part s at 8) ≡ 20116 * 256 ^ 4 + low
+      split = time-halves ∙ rw (first, f)
+
+      by : Dec (2437873663 < low) → leb low 2437873663 ≡ timeInRange (be (part s at 8))
+      by (yes l) = lt-leb low 2437873663 l ∙ sym (lt-leb (be (part s at 8)) latestTime (omega (arith, split)))
+      by (no l) = le-leb low 2437873663 (omega (arith, l)) ∙ sym (le-leb (be (part s at 8)) latestTime (omega (arith, split, l)))
+
+-- ---- a price by its first byte
+
+pub price-first : (s : List ℕ) (at : ℕ) {v : ℕ} → Lent s → at + 4 ≤ length s → v ≡ be (part s at 1) → ltb v 128 ≡ priceInRange (be (part s at 4))
+price-first s at {v} k h e = by (decLt v 128)
+  where
+    split : be (part s at 4) ≡ v * 256 ^ 3 + be (part s (at + 1) 3)
+    split = be-split s at 1 3 (omega arith) ∙ ap (λ (u : ℕ). u * 256 ^ 3 + be (part s (at + 1) 3)) (sym e)
+
+    below : be (part s (at + 1) 3) < 256 ^ 3
+    below = rw (part-length s (at + 1) 3 (omega arith)) at (value-below 256 (lit< tt) (part s (at + 1) 3) (part-bytes s (at + 1) 3 (lent-bytes s k)))
+
+    by : Dec (v < 128) → ltb v 128 ≡ priceInRange (be (part s at 4))
+    by (yes l) = lt-ltb v 128 l ∙ sym (lt-ltb (be (part s at 4)) priceEnd (omega (arith, split, below)))
+    by (no l) = le-ltb v 128 (omega (arith, l)) ∙ sym (le-ltb (be (part s at 4)) priceEnd (omega (arith, split, l)))

@@ -3,10 +3,11 @@
 use mathlib.Core.Path.{_≡_, refl, sym, ap, _∙_}
 use mathlib.Core.List.{List, [], _∷_, _++_}
 use Prim.Native.Nat.{ℕ, _+_, _≤_}
+use native.Mathlib.Nat.{add-zero, add-assoc}
 use native.Mathlib.Omega.{arith}
 use lib.ListN.{length, length-append}
-use Rattle.field.specs.Bytes.{overlay}
-use Rattle.field.proofs.Parts.{overlay-none, overlay-next, overlay-length}
+use Rattle.field.specs.Bytes.{part, overlay}
+use Rattle.field.proofs.Parts.{part-length, part-split, overlay-none, overlay-next, overlay-length}
 
 pub record Piece : Type 0 where
   pub width : ℕ
@@ -59,3 +60,32 @@ run-joined xs at p ps {ys} {zs} s h e r =
     ∙ ap (λ (y : List ℕ). overlay y (at + p .width) (joined ps)) e
     ∙ ap (λ (j : ℕ). overlay (overlay xs at (p .bytes)) (at + j) (joined ps)) (sym w)
     ∙ overlay-next xs at (p .bytes) (joined ps) (omega arith)
+
+-- ---- a run of copies, each from next to the one before it and to next to it, is one copy
+
+-- the copies, as a function's calls show them
+abbrev pub Carry : List ℕ → ℕ → List ℕ → ℕ → ℕ → List ℕ → List ℕ → Type 0
+Carry s from xs at k [] zs = zs ≡ xs
+Carry s from xs at k (w ∷ ws) zs = (ys : List ℕ) × (ys ≡ overlay xs (at + k) (part s (from + k) w)) × Carry s from ys at (k + w) ws zs
+
+abbrev pub total : List ℕ → ℕ
+total [] = 0
+total (w ∷ ws) = w + total ws
+
+carry-two : (s : List ℕ) (from : ℕ) (xs : List ℕ) (at m n : ℕ) {ys zs : List ℕ} → from + (m + n) ≤ length s → at + (m + n) ≤ length xs
+    → ys ≡ overlay xs at (part s from m) → zs ≡ overlay ys (at + m) (part s (from + m) n) → zs ≡ overlay xs at (part s from (m + n))
+carry-two s from xs at m n h g e f =
+    let l : length (part s from m) ≡ m = part-length s from m (omega arith) in
+    let k : length (part s (from + m) n) ≡ n = part-length s (from + m) n (omega arith) in
+    f ∙ ap (λ (y : List ℕ). overlay y (at + m) (part s (from + m) n)) e
+    ∙ ap (λ (j : ℕ). overlay (overlay xs at (part s from m)) (at + j) (part s (from + m) n)) (sym l)
+    ∙ overlay-next xs at (part s from m) (part s (from + m) n) (omega arith)
+    ∙ ap (overlay xs at) (sym (part-split s from m n))
+
+-- THE LAW OF A RUN OF COPIES, of n bytes and then of the widths
+pub carried-run : (s : List ℕ) (from : ℕ) (xs : List ℕ) (at n : ℕ) (ws : List ℕ) {ys zs : List ℕ} → from + (n + total ws) ≤ length s → at + (n + total ws) ≤ length xs
+    → ys ≡ overlay xs at (part s from n) → Carry s from ys at n ws zs → zs ≡ overlay xs at (part s from (n + total ws))
+carried-run s from xs at n [] h g e r = r ∙ e ∙ ap (λ (k : ℕ). overlay xs at (part s from k)) (sym (add-zero n))
+carried-run s from xs at n (w ∷ ws) h g e r =
+    carried-run s from xs at (n + w) ws (omega arith) (omega arith) (carry-two s from xs at n w (omega arith) (omega arith) e (r .1)) (r .2)
+    ∙ ap (λ (k : ℕ). overlay xs at (part s from k)) (add-assoc n w (total ws))

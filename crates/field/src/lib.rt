@@ -125,17 +125,50 @@ pub fn fill(dst: &mut [u8], at: usize, n: usize, byte: u8)
     }
 }
 
-// Are the n bytes of a from i on those of b from j on?
+// Are the n bytes of a from i on those of b from j on? Without a branch, so that several are compared at once.
 pub fn equal(a: &[u8], i: usize, b: &[u8], j: usize, n: usize) -> bool
     requires { ⌜ (i + n ≤ length (now a)) × (j + n ≤ length (now b)) ⌝ }
     ensures { λ r. ⌜ r ≡ same (part (now (a .entry)) i n) (part (now (b .entry)) j n) ⌝ }
 {
+    let mut same = true;
     let mut k = 0;
     while k < n {
-        if a[i + k] != b[j + k] {
-            return false;
-        }
+        same = same & (a[i + k] == b[j + k]);
         k += 1;
     }
-    true
+    same
+}
+
+// One byte of src, from `from` to dst at `at`.
+pub fn copy1(src: &[u8], from: usize, dst: &mut [u8], at: usize)
+    requires { ⌜ (from + 1 ≤ length (now src)) × (at + 1 ≤ length (now dst)) ⌝ }
+    ensures { λ r. ⌜ now (dst .exit) ≡ overlay (now (dst .entry)) at (part (now (src .entry)) from 1) ⌝ }
+{
+    write1(dst, at, read1(src, from));
+}
+
+// Two bytes of src from `from` on, to dst from `at` on: one load and one store.
+pub fn copy2(src: &[u8], from: usize, dst: &mut [u8], at: usize)
+    requires { ⌜ (from + 2 ≤ length (now src)) × (at + 2 ≤ length (now dst)) ⌝ }
+    ensures { λ r. ⌜ now (dst .exit) ≡ overlay (now (dst .entry)) at (part (now (src .entry)) from 2) ⌝ }
+{
+    write2(dst, at, read2(src, from));
+}
+
+// Four bytes of src from `from` on, to dst from `at` on: one load and one store.
+pub fn copy4(src: &[u8], from: usize, dst: &mut [u8], at: usize)
+    requires { ⌜ (from + 4 ≤ length (now src)) × (at + 4 ≤ length (now dst)) ⌝ }
+    ensures { λ r. ⌜ now (dst .exit) ≡ overlay (now (dst .entry)) at (part (now (src .entry)) from 4) ⌝ }
+{
+    write4(dst, at, read4(src, from));
+}
+
+// Eight bytes of src from `from` on, to dst from `at` on: one load and one store.
+pub fn copy8(src: &[u8], from: usize, dst: &mut [u8], at: usize)
+    requires { ⌜ (from + 8 ≤ length (now src)) × (at + 8 ≤ length (now dst)) ⌝ }
+    ensures { λ r. ⌜ now (dst .exit) ≡ overlay (now (dst .entry)) at (part (now (src .entry)) from 8) ⌝ }
+{
+    let v = read8(src, from);
+    write4(dst, at, (v / 4294967296) as u32);
+    write4(dst, at + 4, (v % 4294967296) as u32);
 }

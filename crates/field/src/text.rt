@@ -43,3 +43,17 @@ pub fn is_text(s: &[u8], at: usize, n: usize) -> bool
     }
     only(s, at + k, n - k, b' ')
 }
+
+// The same as `only`, without a branch, for bytes that mostly are.
+pub fn all(s: &[u8], at: usize, n: usize, byte: u8) -> bool
+    requires { ⌜ at + n ≤ length (now s) ⌝ }
+    ensures { λ r. ⌜ r ≡ every (within byte byte) (part (now (s .entry)) at n) ⌝ }
+{
+    let mut same = true;
+    let mut k = 0;
+    while k < n {
+        same = same & (s[at + k] == byte);
+        k += 1;
+    }
+    same
+}

@@ -14,7 +14,7 @@ use Rattle.field.specs.Limits.{numberInRange, highestNumber}
 use Rattle.field.specs.Decimal.{numberBeforeSpaces, charsThenSpaces}
 use Rattle.field.specs.declared.decimal.Number.{Number}
 use Rattle.field.specs.declared.decimal.Number.the-variants.{Is, Bad}
-use Rattle.field.proofs.Parts.{part-length, part-part}
+use Rattle.field.proofs.Parts.{part-length, part-none, part-split, part-part}
 use Rattle.field.proofs.Numbers.{digits-length, digits-value, value-digits, part-bytes}
 use Rattle.field.proofs.Bools.{both-left, both-right}
 use Rattle.field.proofs.Decimals.{before-of, of-before, before-length}
@@ -161,3 +161,41 @@ values-in-part k n (r ∷ rs) bs t =
       e,
       values-in-part k n rs bs (both-right (leb k (r .at) && leb (r .at + r .width) (k + n)) (rowsIn k n rs) t),
     )
+
+-- ---- fields that lie side by side
+
+-- a field that says its bytes whatever they are
+abbrev pub plain : Rule → Bool
+plain (binary p) = true
+plain decimal = false
+plain text = true
+plain bytes = true
+
+-- the rows stand one after the other from `at` on
+abbrev pub Spaced : ℕ → List Row → Type 0
+Spaced at [] = Unit
+Spaced at (r ∷ rs) = (r .at ≡ at) × (plain (r .rule) ≡ true) × Spaced (at + r .width) rs
+
+abbrev pub span : List Row → ℕ
+span [] = 0
+span (r ∷ rs) = r .width + span rs
+
+plain-back : (r : Rule) (w : ℕ) (b : List ℕ) → plain r ≡ true → length b ≡ w → Bytes b → bytesIn r w (valueIn r b) ≡ b
+plain-back (binary p) w b h e s = rw e at (digits-value 256 (lit< tt) b s)
+plain-back decimal w b h e s = never h
+plain-back text w b h e s = refl
+plain-back bytes w b h e s = refl
+
+-- THE LAW OF FIELDS SIDE BY SIDE: written one after the other they are the bytes that they were read from
+pub fields-run : (rs : List Row) (bs : List ℕ) (at : ℕ) → Spaced at rs → Bytes bs → at + span rs ≤ length bs
+    → bytesFor rs (values rs bs) ≡ part bs at (span rs)
+unfolding bytesFor values
+fields-run [] bs at t s h = sym (part-none bs at)
+fields-run (r ∷ rs) bs at t s h =
+    let f = part bs at (r .width) in
+    rw (
+      t .0,
+      plain-back (r .rule) (r .width) f (t .1) (part-length bs at (r .width) (omega arith)) (part-bytes bs at (r .width) s),
+      fields-run rs bs (at + r .width) (t .2) s (omega arith),
+    )
+    (sym (part-split bs at (r .width) (span rs)))

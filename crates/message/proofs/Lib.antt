@@ -5,5 +5,6 @@ pub mod Rounds
 pub mod Verdicts
 pub mod Typed
 pub mod Ways
+pub mod Tested
 pub mod Puts
 mod Examples

@@ -10,11 +10,12 @@ use Rattle.field.specs.Bytes.{part, overlay, digits, bytesBe}
 use Rattle.field.specs.Decimal.{charsThenSpaces, digitCount}
 use borrow.Rule.Slice.PartMut.{putMid}
 use Rattle.field.proofs.Parts.{part-length, part-whole, part-back, overlay-length, overlay-whole}
-use Rattle.field.proofs.Numbers.{digits-length}
+use Rattle.field.proofs.Numbers.{digits-length, Lent, lent-bytes}
 use Rattle.field.proofs.Decimals.{before-length, count-most}
-use Rattle.field.proofs.Writes.{piece, run-joined}
-use Rattle.message.specs.Layout.{bytesFor}
-use Rattle.message.specs.Letters.{stampRows, stampFields, systemEventRows, systemEventFields, instrumentRows, instrumentFields, directoryRows, directoryFields, quoteRows, quoteFields, shortNumbersRows, shortNumbersFields, longNumbersRows, longNumbersFields, shortQuoteRows, shortQuoteFields, longQuoteRows, longQuoteFields, shortSideCode, shortSideRows, shortSideFields, longSideCode, longSideRows, longSideFields, endOfReplayRows, endOfReplayFields, entrySize, systemEventLetter, directoryLetter, shortQuoteLetter, longQuoteLetter, shortSideLetter, longSideLetter, endOfReplayLetter}
+use Rattle.field.proofs.Writes.{Piece, piece, run-joined, carried-run}
+use Rattle.message.specs.Layout.{bytesFor, values}
+use Rattle.message.specs.Letters.{stampRows, stampFields, systemEventRows, systemEventFields, instrumentRows, instrumentFields, directoryRows, directoryFields, quoteRows, quoteFields, shortNumbersRows, shortNumbersFields, longNumbersRows, longNumbersFields, longNumbersOf, shortQuoteRows, shortQuoteFields, longQuoteRows, longQuoteFields, shortSideCode, shortSideRows, shortSideFields, longSideCode, longSideRows, longSideFields, endOfReplayRows, endOfReplayFields, entrySize, systemEventLetter, directoryLetter, shortQuoteLetter, longQuoteLetter, shortSideLetter, longSideLetter, endOfReplayLetter}
+use Rattle.message.proofs.Layouts.{fields-run}
 use Rattle.message.specs.declared.Stamp.{Stamp}
 use Rattle.message.specs.declared.ShortNumbers.{ShortNumbers}
 use Rattle.message.specs.declared.LongNumbers.{LongNumbers}
@@ -71,6 +72,15 @@ pub long-numbers-put : (xs : List ℕ) (at : ℕ) (n : LongNumbers) {us vs ws ys
     → zs ≡ overlay xs at (bytesFor (longNumbersRows at) (longNumbersFields n))
 unfolding bytesFor
 long-numbers-put xs at n h = five-put 4 xs at (n .market) (n .price) (n .size) (n .customer) (n .professional) h
+
+-- carried from other bytes, with no number taken
+pub long-carried : (xs bs : List ℕ) (at from : ℕ) {us vs zs : List ℕ} → Lent bs → from + 20 ≤ length bs → at + 20 ≤ length xs
+    → us ≡ overlay xs at (part bs from 8) → vs ≡ overlay us (at + 8) (part bs (from + 8) 8) → zs ≡ overlay vs (at + 16) (part bs (from + 16) 4)
+    → zs ≡ overlay xs at (bytesFor (longNumbersRows at) (longNumbersFields (longNumbersOf (values (longNumbersRows from) bs))))
+unfolding values bytesFor
+long-carried xs bs at from {us} {vs} {zs} k h g e f i =
+    carried-run bs from xs at 8 (8 ∷ 4 ∷ []) h g e (vs, f, (zs, i, refl))
+    ∙ ap (overlay xs at) (sym (fields-run (longNumbersRows from) bs from (refl, refl, (refl, refl, (omega arith, refl, (omega arith, refl, (omega arith, refl, tt))))) (lent-bytes bs k) h))
 
 -- ---- an instrument
 

@@ -114,7 +114,7 @@ unfolding values
 no-number-taken bs p q = rw (← p, q)
 
 -- the bytes of an instrument, in a directory and by themselves
-entry-values : (bs : List ℕ) → values entryRows (part bs 11 entrySize) ≡ values instrumentRows bs
+pub entry-values : (bs : List ℕ) → values entryRows (part bs 11 entrySize) ≡ values instrumentRows bs
 unfolding rowsIn
 entry-values bs = values-in-part 11 entrySize instrumentRows bs refl
 

@@ -2,3 +2,4 @@ pub mod Layout
 pub mod Feed
 pub mod Letters
 pub mod Message
+pub mod Test

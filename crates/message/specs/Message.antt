@@ -7,7 +7,7 @@ use lib.Dec.{leb}
 use lib.ListN.{length}
 use Rattle.field.specs.Bytes.{overlay}
 use Rattle.message.specs.Layout.{keepsAll, bytesFor, Value, Fit}
-use Rattle.message.specs.Feed.{Letter, fieldsRead, bytesRead}
+use Rattle.message.specs.Feed.{Letter, fieldsRead, letterRead, bytesRead}
 use Rattle.message.specs.Letters.{Content, unlisted, letters, letterFor, fieldsOf, noTexts}
 use Rattle.message.specs.declared.Message.{Message}
 use Rattle.message.specs.declared.Message.the-variants as message
@@ -45,6 +45,10 @@ told x = accepted (x .0) (x .1)
 
 unfoldable pub readFields : Letter Content → List Value → Reading
 readFields = fieldsRead told refused
+
+-- by one of them
+unfoldable pub readAs : Letter Content → List ℕ → Reading
+readAs = letterRead told refused
 
 unfoldable pub readOf : List ℕ → Reading
 readOf = bytesRead told refused unlisted letters

@@ -148,3 +148,20 @@ pub fn put(out: &mut [u8], m: Instrument, t: Texts)
     terms(out, m, t);
     market(out, m, t);
 }
+
+// The rules of an instrument, tested where its bytes lie.
+pub fn keep_bytes(entry: &[u8]) -> bool
+    requires { ⌜ 52 ≤ length (now entry) ⌝ }
+    ensures { λ r. ⌜ r ≡ keepsAll entryRows (values entryRows (now (entry .entry))) ⌝ }
+{
+    text::is_text(entry, 4, 8)
+        & (is_within(0, 99, field::read1(entry, 12))
+            & (is_within(1, 12, field::read1(entry, 13))
+                & (is_within(1, 31, field::read1(entry, 14))
+                    & (limits::price_keeps(entry, 15)
+                        & (codes::is_type(field::read1(entry, 19))
+                            & (text::is_text(entry, 20, 13)
+                                & (codes::is_closing(field::read1(entry, 33))
+                                    & (codes::is_tradable(field::read1(entry, 34))
+                                        & codes::is_variation(field::read1(entry, 35))))))))))
+}

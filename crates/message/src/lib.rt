@@ -11,6 +11,7 @@ pub mod numbers;
 mod put;
 mod rules;
 mod take;
+pub mod test;
 
 // The tracking number, and the nanoseconds since midnight.
 pub struct Stamp {

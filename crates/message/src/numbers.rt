@@ -63,3 +63,13 @@ pub fn put_long(out: &mut [u8], at: usize, n: LongNumbers)
     field::write4(out, at + 12, n.customer);
     field::write4(out, at + 16, n.professional);
 }
+
+// The 20 bytes of a side from one place to another, with no number taken.
+pub fn carry_long(bytes: &[u8], from: usize, out: &mut [u8], at: usize)
+    requires { ⌜ (from + 20 ≤ length (now bytes)) × (at + 20 ≤ length (now out)) ⌝ }
+    ensures { λ r. ⌜ now (out .exit) ≡ overlay (now (out .entry)) at (bytesFor (longNumbersRows at) (longNumbersFields (longNumbersOf (values (longNumbersRows from) (now (bytes .entry)))))) ⌝ }
+{
+    field::copy8(bytes, from, out, at);
+    field::copy8(bytes, from + 8, out, at + 8);
+    field::copy4(bytes, from + 16, out, at + 16);
+}
