@@ -41,7 +41,7 @@ fn event(e: Event, texts: Texts, memory: &mut [u8]) -> u32
         }
         Event::Message(m) => {
             let beside = texts.message;
-            record::put(m, beside, memory);
+            record::put_message(m, beside, memory);
             768
         }
         Event::Heartbeat => 1024,

@@ -1,6 +1,8 @@
 pub mod Laid
 pub mod Puts
+pub mod Moved
 pub mod Ways
 pub mod Typed
 pub mod Rounds
+pub mod Joined
 mod Examples

@@ -46,12 +46,12 @@ unfolding laid
 short-laid xs at n e f g h i = rw (i, h, g, f, e)
 
 -- five numbers side by side
-long-laid : (xs : List ℕ) (at : ℕ) (n : LongNumbers) → at + 20 ≤ length xs
+pub long-laid : (xs : List ℕ) (at : ℕ) (n : LongNumbers) → at + 20 ≤ length xs
     → overlay xs at (bytesFor (longNumbersRows at) (longNumbersFields n)) ≡ laid (longPlaces at) (longNumbersFields n) xs
 unfolding laid
 long-laid xs at n h = sym (long-numbers-put xs at n h refl refl refl refl refl)
 
-head-length : (xs : List ℕ) (l : ℕ) (s : Stamp) (id code : ℕ) → recordSize ≤ length xs
+pub head-length : (xs : List ℕ) (l : ℕ) (s : Stamp) (id code : ℕ) → recordSize ≤ length xs
     → length (laid (letterPlace ∷ headPlaces) (num l ∷ quoteFields s id code) xs) ≡ length xs
 unfolding digits inside
 head-length xs l s id code h =
@@ -106,7 +106,7 @@ quote-laid : (xs : List ℕ) (m : LongQuote) {us vs zs : List ℕ}
 unfolding laid
 quote-laid xs m e f g = rw (g, f, e)
 
-numbers-length : (at : ℕ) (n : LongNumbers) → length (bytesFor (longNumbersRows at) (longNumbersFields n)) ≡ 20
+pub numbers-length : (at : ℕ) (n : LongNumbers) → length (bytesFor (longNumbersRows at) (longNumbersFields n)) ≡ 20
 unfolding bytesFor digits
 numbers-length at n = refl
 

@@ -41,12 +41,12 @@ use Rattle.record.proofs.Typed.{is-said, is-record, record-roomy, roomy
 
 -- ---- the places of a message
 
-record Placed (code : ℕ) (rows : List Row) (l : Letter Content) : Type 0 where
-  plain : Plain (letterPlace ∷ rows)
-  within : inside recordSize (letterPlace ∷ rows) ≡ true
-  disjoint : apart (letterPlace ∷ rows) ≡ true
-  letter : letterIn recordLetters code ≡ l
-  byte : code < 256
+pub record Placed (code : ℕ) (rows : List Row) (l : Letter Content) : Type 0 where
+  pub plain : Plain (letterPlace ∷ rows)
+  pub within : inside recordSize (letterPlace ∷ rows) ≡ true
+  pub disjoint : apart (letterPlace ∷ rows) ≡ true
+  pub letter : letterIn recordLetters code ≡ l
+  pub byte : code < 256
 
 short-placed : (s : Side) → Placed (shortSideCode s) (shortSidePlaces s) (recordLetter (shortSideLetter s) (shortSidePlaces s))
 unfolding inside apart outside recordLetters letterAmong
@@ -58,7 +58,7 @@ unfolding inside apart outside recordLetters letterAmong
 long-placed Bid = search (tt, arith) depth 60
 long-placed Ask = search (tt, arith) depth 60
 
-placed : (m : Message) → Placed (letterFor m .code) (placesFor m) (recordLetterFor m)
+pub placed : (m : Message) → Placed (letterFor m .code) (placesFor m) (recordLetterFor m)
 unfolding inside apart outside recordLetters letterAmong
 placed (message.SystemEvent m) = search (tt, arith) depth 60
 placed (message.Directory m) = search (tt, arith) depth 60

@@ -1,6 +1,6 @@
 -- The ways through the code: what it finds, test by test, is what the definitions say.
 -- Assumes nothing.
-use mathlib.Core.Path.{_≡_, sym, ap, _∙_}
+use mathlib.Core.Path.{_≡_, refl, sym, ap, _∙_}
 use mathlib.Core.Bool.{Bool, true, false, cond}
 use mathlib.Core.List.{List}
 use Prim.Native.Nat.{ℕ, _+_, _*_, _≤_}
@@ -13,15 +13,14 @@ use Rattle.field.proofs.Parts.{part-length, part-whole, overlay-whole}
 use Rattle.message.specs.Layout.{values}
 use Rattle.message.specs.Feed.{Letter}
 use Rattle.message.specs.Letters.{Content, letterIn, letterFor, unlisted, directoryLetter, noTexts, shortNumbersOf, textsOf}
-use Rattle.message.specs.Message.{refusalNumber, writeRefusalNumber, readOf, keeps, bytesOf, Outcome, outcome, writeOf}
+use Rattle.message.specs.Test.{tested}
+use Rattle.message.specs.Message.{writeRefusalNumber, readOf, keeps, bytesOf, Outcome, outcome, writeOf}
 use Rattle.message.specs.declared.ShortNumbers.{ShortNumbers}
 use Rattle.message.specs.declared.Message.{Message}
 use Rattle.message.specs.declared.Message.the-variants as message
 use Rattle.message.specs.declared.Texts.{Texts}
-use Rattle.message.specs.declared.Refusal.{Refusal}
 use Rattle.message.specs.declared.Answer.{Answer}
 use Rattle.message.specs.declared.Answer.the-variants as reading
-use Rattle.message.specs.declared.Reading.{Reading}
 use Rattle.message.specs.declared.Written.{Written}
 use Rattle.message.specs.declared.Written.the-variants.{Whole, Unwritten}
 use Rattle.message.specs.declared.WriteRefusal.{WriteRefusal}
@@ -123,18 +122,31 @@ pub read-long : (bs memory : List ℕ) → (length memory ≡ recordSize → ⊥
 unfolding readAnswer
 read-long bs memory h = rw (ne-eqb (length memory) recordSize h)
 
-module _ (bs memory : List ℕ) (x : Reading) (h : length memory ≡ recordSize) (is : x ≡ readOf bs) where
-  as-read : readTo (x .answer) (x .texts) memory ≡ readAnswer bs memory
+number-read : (a : Answer) (t : Texts) (memory : List ℕ) → readTo a t memory .number ≡ tested (record { answer = a; texts = t })
+unfolding readTo
+number-read (reading.Is m) t memory = refl
+number-read (reading.Refused r) t memory = refl
+
+kept-read : (a : Answer) (t : Texts) (memory : List ℕ) → (tested (record { answer = a; texts = t }) ≡ 0 → ⊥) → readTo a t memory .memory ≡ memory
+unfolding readTo
+kept-read (reading.Is m) t memory h = absurd (h refl)
+kept-read (reading.Refused r) t memory h = refl
+
+module _ (bs memory : List ℕ) (r : ℕ) (h : length memory ≡ recordSize) (is : r ≡ tested (readOf bs)) where
+  as-read : readTo (readOf bs .answer) (readOf bs .texts) memory ≡ readAnswer bs memory
   unfolding readAnswer
-  as-read = rw (eq-eqb (length memory) recordSize h, is)
+  as-read = rw (eq-eqb (length memory) recordSize h)
 
-  pub read-yes : (m : Message) {zs : List ℕ} → x .answer ≡ reading.Is m → zs ≡ recordBytes m (x .texts) → answered 0 zs ≡ readAnswer bs memory
-  unfolding readTo
-  read-yes m e p = ap (answered 0) p ∙ ap (λ (a : Answer). readTo a (x .texts) memory) (sym e) ∙ as-read
+  pub read-yes : {zs : List ℕ} → r ≡ 0 → zs ≡ readTo (readOf bs .answer) (readOf bs .texts) memory .memory → answered 0 zs ≡ readAnswer bs memory
+  read-yes e p =
+      let n : readTo (readOf bs .answer) (readOf bs .texts) memory .number ≡ 0 = number-read (readOf bs .answer) (readOf bs .texts) memory ∙ sym is ∙ e in
+      ap (answered 0) p ∙ ap (λ (k : ℕ). answered k (readTo (readOf bs .answer) (readOf bs .texts) memory .memory)) (sym n) ∙ as-read
 
-  pub read-no : (r : Refusal) {n : ℕ} → x .answer ≡ reading.Refused r → n ≡ refusalNumber r → answered n memory ≡ readAnswer bs memory
-  unfolding readTo
-  read-no r e p = ap (λ (k : ℕ). answered k memory) p ∙ ap (λ (a : Answer). readTo a (x .texts) memory) (sym e) ∙ as-read
+  pub read-no : (r ≡ 0 → ⊥) → answered r memory ≡ readAnswer bs memory
+  read-no d =
+      let x = readTo (readOf bs .answer) (readOf bs .texts) memory in
+      ap (λ (k : ℕ). answered k memory) (is ∙ sym (number-read (readOf bs .answer) (readOf bs .texts) memory))
+      ∙ ap (answered (x .number)) (sym (kept-read (readOf bs .answer) (readOf bs .texts) memory (λ e. d (is ∙ e)))) ∙ as-read
 
 -- ---- written from a record
 

@@ -8,7 +8,7 @@ use lib.ListN.{length, getD, replicate}
 use Rattle.field.specs.Bytes.{overlay, same}
 use Rattle.message.specs.Layout.{Value, num, raw, Row, bytesIn, values, Fit}
 use Rattle.message.specs.Feed.{Letter}
-use Rattle.message.specs.Letters.{Content, letterIn, letterFor, fieldsOf, noTexts}
+use Rattle.message.specs.Letters.{Content, letters, letterIn, letterFor, fieldsOf, noTexts}
 use Rattle.message.specs.Message.{refusalNumber, writeRefusalNumber, readOf, writeOf}
 use Rattle.message.specs.declared.Message.{Message}
 use Rattle.message.specs.declared.Instrument.{Instrument}
@@ -112,3 +112,10 @@ writeAnswer bs out = cond (eqb (length bs) recordSize) (writeFrom (recordOf bs .
 -- each number and text has room in its field, as every value that the code holds has
 abbrev pub Roomy : Message → Texts → Type 0
 Roomy m t = Fit (placesFor m) (fieldsOf m t)
+
+-- ---- STRAIGHT FROM A MESSAGE'S BYTES
+
+-- the letter and the fields of some bytes, laid over others
+unfoldable pub laidFrom : List ℕ → List ℕ → List ℕ
+laidFrom bs xs =
+    laid (letterPlace ∷ letterIn recordLetters (getD bs 0 0) .rows) (values (letterPlace ∷ letterIn letters (getD bs 0 0) .rows) bs) xs

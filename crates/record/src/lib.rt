@@ -1,16 +1,18 @@
 // The record of a message in bytes: 112 of them, the same places for all letters, and 0 where a letter has no field.
-use message::Answer;
 use message::Message;
 use message::Texts;
 use message::Written;
 ghost use mathlib.Core.Path.{_≡_};
 ghost use lib.ListN.{length};
 ghost use Rattle.field.specs.Bytes.{same};
+ghost use Rattle.message.specs.Message.{readOf};
+ghost use Rattle.message.specs.Test.{tested};
 ghost use Rattle.record.specs.Places.{recordSize};
-ghost use Rattle.record.specs.Record.{recordBytes, held, noRecord, recordOf, answered, readAnswer, writeAnswer};
+ghost use Rattle.record.specs.Record.{recordBytes, held, noRecord, recordOf, answered, readTo, readAnswer, writeAnswer};
 
 mod lay;
 mod say;
+mod wire;
 
 pub const RECORD_SIZE: usize = 112;
 
@@ -34,13 +36,22 @@ fn none() -> Held
     }
 }
 
-// The record of a message, all of it.
-pub fn put(m: Message, t: Texts, out: &mut [u8])
-    requires { ⌜ length (now out) ≡ recordSize ⌝ }
-    ensures { λ _. ⌜ now (out .exit) ≡ recordBytes m t ⌝ }
+// The record of a message's bytes, which have passed their test.
+pub fn put(bytes: &[u8], out: &mut [u8])
+    requires { ⌜ (tested (readOf (now bytes)) ≡ 0) × (length (now out) ≡ recordSize) ⌝ }
+    ensures { λ _. ⌜ now (out .exit) ≡ readTo (readOf (now (bytes .entry)) .answer) (readOf (now (bytes .entry)) .texts) (now (out .entry)) .memory ⌝ }
 {
     field::fill(out, 0, RECORD_SIZE, 0);
-    lay::message(m, t, out);
+    wire::lay(bytes, out);
+}
+
+// The record of a message, all of it.
+pub fn put_message(m: Message, t: Texts, memory: &mut [u8])
+    requires { ⌜ length (now memory) ≡ recordSize ⌝ }
+    ensures { λ _. ⌜ now (memory .exit) ≡ recordBytes m t ⌝ }
+{
+    field::fill(memory, 0, RECORD_SIZE, 0);
+    lay::message(m, t, memory);
 }
 
 // Are the bytes the record of this message?
@@ -82,16 +93,12 @@ pub fn read(bytes: &[u8], memory: &mut [u8]) -> u32
     if memory.len() != RECORD_SIZE {
         return 20;
     }
-    let reading = message::read(bytes);
-    let t = reading.texts;
-    let answer = reading.answer;
-    match answer {
-        Answer::Is(m) => {
-            put(m, t, memory);
-            0
-        }
-        Answer::Refused(r) => message::refusal_number(r) as u32,
+    let refusal = message::test::message(bytes);
+    if refusal != 0 {
+        return refusal;
     }
+    put(bytes, memory);
+    0
 }
 
 // A record written as its message's bytes: 256 times their count, or the number of a refusal, which leaves the output.

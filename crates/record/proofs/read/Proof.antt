@@ -9,12 +9,10 @@ returns : tie.Need-returns
 returns c = search (read-long, needs)
 
 returns-2 : tie.Need-returns-2
-returns-2 c = search (read-yes, needs)
+returns-2 c = search (read-no, needs)
 
 returns-3 : tie.Need-returns-3
-returns-3 c = search (read-no, needs)
+returns-3 c = search (read-yes, needs)
 
 pub read-spec : {M : Type 1} → statement M
-read-spec =
-    tie.close
-    (tie.spec returns (λ c κs. search needs) (λ c. search needs) (λ c κs. search needs) (λ c. search needs) (λ c κs. search needs) (λ c. search needs) (λ c. search needs) returns-2 returns-3)
+read-spec = tie.close (tie.spec returns (λ c κs. search needs) returns-2 (λ c κs. search needs) (λ c. search needs) returns-3)

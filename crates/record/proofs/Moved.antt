@@ -1,0 +1,180 @@
+-- Fields moved from the places of a message's layout to those of a record are the fields laid there.
+-- Assumes nothing.
+use mathlib.Core.Path.{_≡_, refl, sym, ap, _∙_}
+use mathlib.Core.Bool.{Bool, true, false}
+use mathlib.Core.List.{List, [], _∷_, _++_}
+use Prim.Native.Nat.{ℕ, _+_, _≤_}
+use native.Mathlib.Omega.{arith}
+use lib.Dec.{lit<}
+use lib.ListN.{length, take, drop, getD}
+use Rattle.field.specs.Bytes.{part, overlay, be, bytesBe, Bytes}
+use Rattle.field.proofs.Parts.{part-length, overlay-length}
+use Rattle.field.proofs.Numbers.{digits-value, part-bytes, Lent, lent-bytes}
+use Rattle.field.proofs.Writes.{carried-run}
+use Rattle.message.specs.Layout.{Rule, binary, decimal, text, bytes, Row, valueIn, bytesIn, values, bytesFor}
+use Rattle.message.specs.Letters.{letters, letterIn, anything, endOfReplayRows, endOfReplayOf, stampRows, stampOf, instrumentRows, directoryRows, quoteRows, systemEventRows, shortNumbersRows, longNumbersRows, longNumbersFields, longNumbersOf, shortQuoteRows, longQuoteRows, shortSideRows, longSideRows}
+use Rattle.message.specs.declared.Side.{Side}
+use Rattle.message.proofs.Layouts.{plain}
+use Rattle.record.specs.Places.{recordSize, letterPlace, codePlace, stampPlaces, instrumentPlaces, directoryPlaces, endOfReplayPlaces, recordLetters, headPlaces, systemEventPlaces, sideAt, shortPlaces, longPlaces, shortQuotePlaces, longQuotePlaces, shortSidePlaces, longSidePlaces}
+use Rattle.record.specs.Record.{laid, laidFrom}
+use Rattle.record.proofs.Puts.{long-laid, head-length, numbers-length}
+
+clash : {A : Type 0} → false ≡ true → A
+clash e = let z : _≡_ {A = ℕ} 0 1 = cc in absurd (omega arith)
+
+-- bytes that one rule reads, another writes again; but for numbers in characters
+again : (r p : Rule) (w : ℕ) (b : List ℕ) → plain r ≡ true → plain p ≡ true → length b ≡ w → Bytes b → bytesIn p w (valueIn r b) ≡ b
+again (binary f) (binary g) w b h k e s = rw e at (digits-value 256 (lit< tt) b s)
+again (binary f) decimal w b h k e s = clash k
+again (binary f) text w b h k e s = rw e at (digits-value 256 (lit< tt) b s)
+again (binary f) bytes w b h k e s = rw e at (digits-value 256 (lit< tt) b s)
+again decimal p w b h k e s = clash h
+again text (binary g) w b h k e s = refl
+again text decimal w b h k e s = refl
+again text text w b h k e s = refl
+again text bytes w b h k e s = refl
+again bytes (binary g) w b h k e s = refl
+again bytes decimal w b h k e s = refl
+again bytes text w b h k e s = refl
+again bytes bytes w b h k e s = refl
+
+-- the fields of a layout and their places elsewhere, of the same widths; the fields lie in n bytes
+abbrev pub Pairs : ℕ → List Row → List Row → Type 0
+Pairs n [] ps = Unit
+Pairs n (r ∷ rs) [] = Unit
+Pairs n (r ∷ rs) (p ∷ ps) = (r .at + r .width ≤ n) × (p .width ≡ r .width) × (plain (r .rule) ≡ true) × (plain (p .rule) ≡ true) × Pairs n rs ps
+
+-- the moves, as a function's calls show them
+abbrev pub Moves : List ℕ → List Row → List Row → List ℕ → List ℕ → Type 0
+Moves bs [] ps xs zs = zs ≡ xs
+Moves bs (r ∷ rs) [] xs zs = zs ≡ xs
+Moves bs (r ∷ rs) (p ∷ ps) xs zs = (ys : List ℕ) × (ys ≡ overlay xs (p .at) (part bs (r .at) (r .width))) × Moves bs rs ps ys zs
+
+-- THE LAW OF MOVES
+pub laid-moved : (rs ps : List Row) (bs xs zs : List ℕ) → Pairs (length bs) rs ps → Bytes bs → Moves bs rs ps xs zs → zs ≡ laid ps (values rs bs) xs
+unfolding laid values
+laid-moved [] [] bs xs zs t s m = m
+laid-moved [] (p ∷ ps) bs xs zs t s m = m
+laid-moved (r ∷ rs) [] bs xs zs t s m = m
+laid-moved (r ∷ rs) (p ∷ ps) bs xs zs t s m =
+    let b = part bs (r .at) (r .width) in
+    let e : bytesIn (p .rule) (p .width) (valueIn (r .rule) b) ≡ b
+    = again (r .rule) (p .rule) (p .width) b (t .2) (t .3) (part-length bs (r .at) (r .width) (t .0) ∙ sym (t .1)) (part-bytes bs (r .at) (r .width) s) in
+    laid-moved rs ps bs (m .0) zs (t .4) s (m .2)
+    ∙ ap (laid ps (values rs bs)) (m .1 ∙ ap (overlay xs (p .at)) (sym e))
+
+-- ---- each run of moves
+
+pub stamp-moved : (xs bs : List ℕ) {us vs zs : List ℕ} → Lent bs → 11 ≤ length bs → us ≡ overlay xs 0 (part bs 0 1) → vs ≡ overlay us 2 (part bs 1 2)
+    → zs ≡ overlay vs 8 (part bs 3 8) → zs ≡ laid (letterPlace ∷ stampPlaces) (values (letterPlace ∷ stampRows) bs) xs
+stamp-moved xs bs {us} {vs} {zs} k h e f g =
+    laid-moved (letterPlace ∷ stampRows) (letterPlace ∷ stampPlaces) bs xs zs
+    (omega arith, refl, refl, refl, (omega arith, refl, refl, refl, (h, refl, refl, refl, tt))) (lent-bytes bs k) (us, e, (vs, f, (zs, g, refl)))
+
+pub head-moved : (xs bs : List ℕ) {us vs zs : List ℕ} → Lent bs → 16 ≤ length bs → us ≡ laid (letterPlace ∷ stampPlaces) (values (letterPlace ∷ stampRows) bs) xs
+    → vs ≡ overlay us 4 (part bs 11 4) → zs ≡ overlay vs 1 (part bs 15 1) → zs ≡ laid (letterPlace ∷ headPlaces) (values (letterPlace ∷ quoteRows) bs) xs
+unfolding laid values
+head-moved xs bs {us} {vs} {zs} k h e f g =
+    laid-moved (drop 2 quoteRows) (drop 2 headPlaces) bs us zs (omega arith, refl, refl, refl, (h, refl, refl, refl, tt)) (lent-bytes bs k) (vs, f, (zs, g, refl))
+    ∙ rw e
+
+pub event-moved : (xs bs : List ℕ) {us zs : List ℕ} → Lent bs → 12 ≤ length bs → us ≡ laid (letterPlace ∷ stampPlaces) (values (letterPlace ∷ stampRows) bs) xs
+    → zs ≡ overlay us 1 (part bs 11 1) → zs ≡ laid (letterPlace ∷ systemEventPlaces) (values (letterPlace ∷ systemEventRows) bs) xs
+unfolding laid values
+event-moved xs bs {us} {zs} k h e f =
+    laid-moved (drop 2 systemEventRows) (drop 2 systemEventPlaces) bs us zs (h, refl, refl, refl, tt) (lent-bytes bs k) (zs, f, refl) ∙ rw e
+
+pub short-moved : (xs bs : List ℕ) (at from : ℕ) {us vs ws ys zs : List ℕ} → Lent bs → from + 10 ≤ length bs → us ≡ overlay xs (at + 2) (part bs from 2)
+    → vs ≡ overlay us (at + 6) (part bs (from + 2) 2) → ws ≡ overlay vs (at + 10) (part bs (from + 4) 2) → ys ≡ overlay ws (at + 14) (part bs (from + 6) 2)
+    → zs ≡ overlay ys (at + 18) (part bs (from + 8) 2) → zs ≡ laid (shortPlaces at) (values (shortNumbersRows from) bs) xs
+short-moved xs bs at from {us} {vs} {ws} {ys} {zs} k h e f g i j =
+    laid-moved (shortNumbersRows from) (shortPlaces at) bs xs zs
+    (omega arith, refl, refl, refl, (omega arith, refl, refl, refl, (omega arith, refl, refl, refl, (omega arith, refl, refl, refl, (omega arith, refl, refl, refl, tt)))))
+    (lent-bytes bs k) (us, e, (vs, f, (ws, g, (ys, i, (zs, j, refl)))))
+
+-- ---- the sides of a quote behind its head
+
+module _ (xs bs : List ℕ) {us : List ℕ} (e : us ≡ laid (letterPlace ∷ headPlaces) (values (letterPlace ∷ quoteRows) bs) xs) where
+  pub short-side-moved : (side : Side) (at : ℕ) {zs : List ℕ} → at ≡ sideAt side → zs ≡ laid (shortPlaces at) (values (shortNumbersRows 16) bs) us
+      → zs ≡ laid (letterPlace ∷ shortSidePlaces side) (values (letterPlace ∷ shortSideRows) bs) xs
+  unfolding laid values
+  short-side-moved side at q f = rw (f, e, q)
+
+  pub short-quote-moved : {vs zs : List ℕ} → vs ≡ laid (shortPlaces 24) (values (shortNumbersRows 16) bs) us → zs ≡ laid (shortPlaces 44) (values (shortNumbersRows 26) bs) vs
+      → zs ≡ laid (letterPlace ∷ shortQuotePlaces) (values (letterPlace ∷ shortQuoteRows) bs) xs
+  unfolding laid values
+  short-quote-moved f g = rw (g, f, e)
+
+  module _ (h : recordSize ≤ length xs) where
+    head-long : length us ≡ length xs
+    unfolding values
+    head-long = ap length e ∙ head-length xs (be (part bs 0 1)) (stampOf (values stampRows bs)) (be (part bs 11 4)) (be (part bs 15 1)) h
+
+    pub long-side-moved : (side : Side) (at : ℕ) {zs : List ℕ} → at ≡ sideAt side → at ≤ 44
+        → zs ≡ overlay us at (bytesFor (longNumbersRows at) (longNumbersFields (longNumbersOf (values (longNumbersRows 16) bs))))
+        → zs ≡ laid (letterPlace ∷ longSidePlaces side) (values (letterPlace ∷ longSideRows) bs) xs
+    unfolding laid values
+    long-side-moved side at q l f =
+        f ∙ long-laid us at (longNumbersOf (values (longNumbersRows 16) bs)) (omega (arith, head-long)) ∙ rw (e, q)
+
+    pub long-quote-moved : {vs zs : List ℕ} → vs ≡ overlay us 24 (bytesFor (longNumbersRows 24) (longNumbersFields (longNumbersOf (values (longNumbersRows 16) bs))))
+        → zs ≡ overlay vs 44 (bytesFor (longNumbersRows 44) (longNumbersFields (longNumbersOf (values (longNumbersRows 36) bs))))
+        → zs ≡ laid (letterPlace ∷ longQuotePlaces) (values (letterPlace ∷ longQuoteRows) bs) xs
+    unfolding laid values
+    long-quote-moved {vs} f g =
+        let bid = longNumbersOf (values (longNumbersRows 16) bs) in
+        let wide : length (bytesFor (longNumbersRows 24) (longNumbersFields bid)) ≡ 20 = numbers-length 24 bid in
+        let still : length vs ≡ length us = ap length f ∙ overlay-length us 24 (bytesFor (longNumbersRows 24) (longNumbersFields bid)) (omega (arith, head-long)) in
+        g ∙ long-laid vs 44 (longNumbersOf (values (longNumbersRows 36) bs)) (omega (arith, head-long))
+        ∙ ap (laid (longPlaces 44) (longNumbersFields (longNumbersOf (values (longNumbersRows 36) bs)))) (f ∙ long-laid us 24 bid (omega (arith, head-long)))
+        ∙ rw e
+
+-- ---- a directory
+
+pub terms-moved : (xs bs : List ℕ) {us vs ws ys zs : List ℕ} → Lent bs → 63 ≤ length bs → us ≡ overlay xs 4 (part bs 11 4) → vs ≡ overlay us 75 (part bs 15 8)
+    → ws ≡ overlay vs 68 (part bs 23 1) → ys ≡ overlay ws 69 (part bs 24 1) → zs ≡ overlay ys 70 (part bs 25 1)
+    → zs ≡ laid (take 5 instrumentPlaces) (values (take 5 instrumentRows) bs) xs
+terms-moved xs bs {us} {vs} {ws} {ys} {zs} k h e f g i j =
+    laid-moved (take 5 instrumentRows) (take 5 instrumentPlaces) bs xs zs
+    (omega arith, refl, refl, refl, (omega arith, refl, refl, refl, (omega arith, refl, refl, refl, (omega arith, refl, refl, refl, (omega arith, refl, refl, refl, tt)))))
+    (lent-bytes bs k) (us, e, (vs, f, (ws, g, (ys, i, (zs, j, refl)))))
+
+pub underlying-moved : (xs bs : List ℕ) {us vs zs : List ℕ} → 63 ≤ length bs → recordSize ≤ length xs → us ≡ overlay xs 83 (part bs 31 8)
+    → vs ≡ overlay us 91 (part bs 39 4) → zs ≡ overlay vs 95 (part bs 43 1) → zs ≡ overlay xs 83 (part bs 31 13)
+underlying-moved xs bs {us} {vs} {zs} h g e f i = carried-run bs 31 xs 83 8 (4 ∷ 1 ∷ []) (omega arith) (omega arith) e (vs, f, (zs, i, refl))
+
+pub reserved-moved : (xs bs : List ℕ) {us zs : List ℕ} → 63 ≤ length bs → recordSize ≤ length xs → us ≡ overlay xs 96 (part bs 47 8)
+    → zs ≡ overlay us 104 (part bs 55 8) → zs ≡ overlay xs 96 (part bs 47 16)
+reserved-moved xs bs {us} {zs} h g e f = carried-run bs 47 xs 96 8 (8 ∷ []) (omega arith) (omega arith) e (zs, f, refl)
+
+pub middle-moved : (xs bs : List ℕ) {us vs zs : List ℕ} → Lent bs → 63 ≤ length bs → us ≡ overlay xs 64 (part bs 26 4) → vs ≡ overlay us 71 (part bs 30 1)
+    → zs ≡ overlay vs 83 (part bs 31 13) → zs ≡ laid (take 3 (drop 5 instrumentPlaces)) (values (take 3 (drop 5 instrumentRows)) bs) xs
+middle-moved xs bs {us} {vs} {zs} k h e f g =
+    laid-moved (take 3 (drop 5 instrumentRows)) (take 3 (drop 5 instrumentPlaces)) bs xs zs
+    (omega arith, refl, refl, refl, (omega arith, refl, refl, refl, (omega arith, refl, refl, refl, tt))) (lent-bytes bs k) (us, e, (vs, f, (zs, g, refl)))
+
+pub marks-moved : (xs bs : List ℕ) {us vs ws zs : List ℕ} → Lent bs → 63 ≤ length bs → us ≡ overlay xs 72 (part bs 44 1) → vs ≡ overlay us 73 (part bs 45 1)
+    → ws ≡ overlay vs 74 (part bs 46 1) → zs ≡ overlay ws 96 (part bs 47 16) → zs ≡ laid (drop 8 instrumentPlaces) (values (drop 8 instrumentRows) bs) xs
+marks-moved xs bs {us} {vs} {ws} {zs} k h e f g i =
+    laid-moved (drop 8 instrumentRows) (drop 8 instrumentPlaces) bs xs zs
+    (omega arith, refl, refl, refl, (omega arith, refl, refl, refl, (omega arith, refl, refl, refl, (h, refl, refl, refl, tt)))) (lent-bytes bs k)
+    (us, e, (vs, f, (ws, g, (zs, i, refl))))
+
+pub directory-moved : (xs bs : List ℕ) {us vs ws zs : List ℕ} → us ≡ laid (letterPlace ∷ stampPlaces) (values (letterPlace ∷ stampRows) bs) xs
+    → vs ≡ laid (take 5 instrumentPlaces) (values (take 5 instrumentRows) bs) us → ws ≡ laid (take 3 (drop 5 instrumentPlaces)) (values (take 3 (drop 5 instrumentRows)) bs) vs
+    → zs ≡ laid (drop 8 instrumentPlaces) (values (drop 8 instrumentRows) bs) ws → zs ≡ laid (letterPlace ∷ directoryPlaces) (values (letterPlace ∷ directoryRows) bs) xs
+unfolding laid values
+directory-moved xs bs e f g h = rw (h, g, f, e)
+
+-- ---- any letter
+
+pub end-moved : (xs bs : List ℕ) {v : ℕ} {us zs : List ℕ} → Lent bs → 21 ≤ length bs → us ≡ overlay xs 0 (part bs 0 1) → v ≡ endOfReplayOf (values endOfReplayRows bs) .number
+    → zs ≡ overlay us 16 (bytesBe 8 v) → zs ≡ laid (letterPlace ∷ endOfReplayPlaces) (values (letterPlace ∷ endOfReplayRows) bs) xs
+unfolding laid values
+end-moved xs bs k h e i f =
+    f ∙ rw (i, e, again (binary anything) (binary anything) 1 (part bs 0 1) refl refl (part-length bs 0 1 (omega arith)) (part-bytes bs 0 1 (lent-bytes bs k)))
+
+pub lay-arm : (k : ℕ) (bs xs : List ℕ) {zs : List ℕ} → getD bs 0 0 ≡ k
+    → zs ≡ laid (letterPlace ∷ letterIn recordLetters k .rows) (values (letterPlace ∷ letterIn letters k .rows) bs) xs → zs ≡ laidFrom bs xs
+unfolding laidFrom
+lay-arm k bs xs e p = rw e p
