@@ -7,12 +7,13 @@ use Prim.Native.Nat.{ℕ, _+_, _≤_, _<_}
 use native.Mathlib.Decide.{decLt}
 use native.Mathlib.Omega.{arith}
 use borrow.Author.Tests.{eq-eqb, ne-eqb, eqb-true}
-use lib.Dec.{eqb}
+use lib.Dec.{lit<, eqb}
 use lib.ListN.{length, getD}
-use Rattle.field.specs.Bytes.{part, same}
+use Rattle.field.specs.Bytes.{part, be, bytesBe, Bytes, same}
 use Rattle.field.specs.Text.{every, within}
 use Rattle.field.proofs.Bools.{both-left, both-right}
-use Rattle.field.proofs.Parts.{part-length, part-more, part-none}
+use Rattle.field.proofs.Parts.{part-length, part-more, part-none, part-split}
+use Rattle.field.proofs.Numbers.{total, part-bytes, digits-value}
 use Rattle.field.proofs.Runs.{every-append, within-yes, within-low, within-high}
 
 -- the test says true of lists that are the same, and of no others
@@ -38,12 +39,17 @@ last : (b : Bool) → b && true ≡ b
 last true = refl
 last false = refl
 
+-- lists side by side are the same where the first are and the second are
+same-append : (xs ys us vs : List ℕ) → length xs ≡ length ys → same (xs ++ us) (ys ++ vs) ≡ same xs ys && same us vs
+unfolding same
+same-append [] [] us vs e = refl
+same-append [] (w ∷ ys) us vs e = cc
+same-append (v ∷ xs) [] us vs e = cc
+same-append (v ∷ xs) (w ∷ ys) us vs e = rw (same-append xs ys us vs (omega arith)) (sym (and-assoc (eqb v w) (same xs ys) (same us vs)))
+
 same-ends : (xs ys : List ℕ) (x y : ℕ) → length xs ≡ length ys → same (xs ++ (x ∷ [])) (ys ++ (y ∷ [])) ≡ same xs ys && eqb x y
 unfolding same
-same-ends [] [] x y e = last (eqb x y)
-same-ends [] (w ∷ ys) x y e = cc
-same-ends (v ∷ xs) [] x y e = cc
-same-ends (v ∷ xs) (w ∷ ys) x y e = rw (same-ends xs ys x y (omega arith)) (sym (and-assoc (eqb v w) (same xs ys) (eqb x y)))
+same-ends xs ys x y e = same-append xs ys (x ∷ []) (y ∷ []) e ∙ ap (λ (b : Bool). same xs ys && b) (last (eqb x y))
 
 -- what a loop learns that compares: nothing is the same as nothing, and one more element on both sides
 pub same-none : (a : List ℕ) (i : ℕ) (b : List ℕ) (j : ℕ) → true ≡ same (part a i 0) (part b j 0)
@@ -77,3 +83,34 @@ every-more s at n k c h l e =
     ∙ ap (λ (b : Bool). every (within c c) (part s at k) && b) (sym (within-self c (getD s (at + k) 0)) ∙ sym (last (within c c (getD s (at + k) 0))))
     ∙ sym (every-append (within c c) (part s at k) (getD s (at + k) 0 ∷ []))
     ∙ ap (every (within c c)) (sym (part-more s at k (omega arith)))
+
+-- ---- bytes compared as numbers
+
+pub numbers-same : (xs ys : List ℕ) → Bytes xs → Bytes ys → length xs ≡ length ys → eqb (be xs) (be ys) ≡ same xs ys
+numbers-same xs ys b c e = by (same xs ys) refl
+  where
+    back : be xs ≡ be ys → xs ≡ ys
+    back p = sym (digits-value 256 (lit< tt) xs b) ∙ ap (bytesBe (length xs)) p ∙ ap (λ (n : ℕ). bytesBe n (be ys)) e ∙ digits-value 256 (lit< tt) ys c
+
+    by : (so : Bool) → same xs ys ≡ so → eqb (be xs) (be ys) ≡ so
+    by true s = eq-eqb (be xs) (be ys) (ap be (test-same xs ys s))
+    by false s = ne-eqb (be xs) (be ys) (λ p. let z : _≡_ {A = Bool} true false = sym (same-test (back p)) ∙ s in let w : _≡_ {A = ℕ} 0 1 = cc in omega arith)
+
+-- so two runs of bytes are the same where the numbers of their fields are
+abbrev pub sameFields : List ℕ → ℕ → List ℕ → ℕ → List ℕ → Bool
+sameFields xs i ys j [] = true
+sameFields xs i ys j (w ∷ ws) = eqb (be (part xs i w)) (be (part ys j w)) && sameFields xs (i + w) ys (j + w) ws
+
+module _ (xs ys : List ℕ) (b : Bytes xs) (c : Bytes ys) where
+  pub part-numbers : (n i j : ℕ) → i + n ≤ length xs → j + n ≤ length ys → eqb (be (part xs i n)) (be (part ys j n)) ≡ same (part xs i n) (part ys j n)
+  part-numbers n i j g h = numbers-same (part xs i n) (part ys j n) (part-bytes xs i n b) (part-bytes ys j n c) (part-length xs i n g ∙ sym (part-length ys j n h))
+
+  pub fields-same : (ws : List ℕ) (i j : ℕ) → i + total ws ≤ length xs → j + total ws ≤ length ys
+      → same (part xs i (total ws)) (part ys j (total ws)) ≡ sameFields xs i ys j ws
+  unfolding same
+  fields-same [] i j g h = rw (part-none xs i, part-none ys j)
+  fields-same (w ∷ ws) i j g h =
+      rw (part-split xs i w (total ws), part-split ys j w (total ws))
+      (same-append (part xs i w) (part ys j w) (part xs (i + w) (total ws)) (part ys (j + w) (total ws)) (part-length xs i w (omega arith) ∙ sym (part-length ys j w (omega arith)))
+      ∙ ap (λ (so : Bool). so && same (part xs (i + w) (total ws)) (part ys (j + w) (total ws))) (sym (part-numbers w i j (omega arith) (omega arith)))
+      ∙ ap (λ (so : Bool). eqb (be (part xs i w)) (be (part ys j w)) && so) (fields-same ws (i + w) (j + w) (omega arith) (omega arith)))

@@ -1,4 +1,5 @@
 pub mod Puts
+pub mod Wired
 pub mod Changed
 pub mod Kept
 pub mod Exactly

@@ -22,6 +22,7 @@ ghost use Rattle.row.specs.Changes.{changed, purge, directoryChanges, un
 
 pub mod fields;
 pub mod rules;
+pub mod wire;
 
 pub const ROW_SIZE: usize = 124;
 

@@ -1,0 +1,220 @@
+-- What is carried from a message's bytes to a row is what the message that they say puts there.
+-- Assumes nothing.
+use mathlib.Core.Path.{_≡_, refl, sym, ap, _∙_}
+use mathlib.Core.Bool.{_&&_, and-true}
+use mathlib.Core.List.{List, [], _∷_}
+use Prim.Native.Nat.{ℕ, _+_, _≤_, _<_}
+use native.Mathlib.Decide.{ℕ-discrete}
+use native.Mathlib.Omega.{arith}
+use borrow.Author.Tests.{ne-eqb}
+use lib.Dec.{eqb}
+use lib.ListN.{length, getD}
+use Rattle.field.specs.Bytes.{part, overlay, digits, be, bytesBe}
+use Rattle.field.specs.Limits.{tenThousandths}
+use Rattle.field.proofs.Parts.{overlay-length, overlay-swap, part-after, part-before}
+use Rattle.field.proofs.Numbers.{Lent, lent-bytes}
+use Rattle.field.proofs.Same.{part-numbers, fields-same}
+use Rattle.field.proofs.Writes.{carried-run}
+use Rattle.message.specs.Layout.{bytesFor, values}
+use Rattle.message.specs.Feed.{letterAmong}
+use Rattle.message.specs.Letters.{stampRows, stampFields, longNumbersRows, longNumbersFields, instrumentRows, instrumentFields}
+use Rattle.message.specs.Test.{quoteLetters, quoteLength}
+use Rattle.message.specs.declared.LongNumbers.{LongNumbers}
+use Rattle.message.specs.declared.Side.{Side}
+use Rattle.message.specs.declared.Side.the-variants.{Bid, Ask}
+use Rattle.message.proofs.Layouts.{fields-run}
+use Rattle.message.proofs.Tested.{Quotes, quotes, quote-none}
+use Rattle.message.proofs.Puts.{long-numbers-put}
+use Rattle.row.specs.Fields.{rowSize, sideAt, sidesOf, seenWith}
+use Rattle.row.specs.Changes.{changed, purge, directoryChanges, unchanged, actionChanges, sidesChanges, quoteChanges}
+use Rattle.row.specs.Wire.{stampIn, longIn, shortIn, actionIn, instrumentIn, textsIn, directoryIn, sidesIn, quoteIn}
+use Rattle.row.specs.declared.Sides.{Sides}
+use Rattle.row.specs.declared.Sides.the-variants.{One, Both}
+use Rattle.row.proofs.Puts.{action-put, directory-put, directory-kept, side-put, both-put, quote-put}
+
+-- ---- fields side by side
+
+pub stamp-carried : (xs bs : List ℕ) {us zs : List ℕ} → Lent bs → 11 ≤ length bs → rowSize ≤ length xs
+    → us ≡ overlay xs 96 (part bs 1 2) → zs ≡ overlay us 98 (part bs 3 8) → zs ≡ overlay xs 96 (bytesFor stampRows (stampFields (stampIn bs)))
+unfolding values
+stamp-carried xs bs {us} {zs} k h g e f =
+    carried-run bs 1 xs 96 2 (8 ∷ []) h (omega arith) e (zs, f, refl)
+    ∙ ap (overlay xs 96) (sym (fields-run stampRows bs 1 (refl, refl, (refl, refl, tt)) (lent-bytes bs k) h))
+
+pub entry-carried : (xs bs : List ℕ) {ts us vs zs : List ℕ} → Lent bs → 63 ≤ length bs → rowSize ≤ length xs
+    → ts ≡ overlay xs 0 (part bs 11 32) → us ≡ overlay ts 32 (part bs 43 8) → vs ≡ overlay us 40 (part bs 51 8) → zs ≡ overlay vs 48 (part bs 59 4)
+    → zs ≡ overlay xs 0 (bytesFor instrumentRows (instrumentFields (instrumentIn bs) (textsIn bs)))
+unfolding values
+entry-carried xs bs {ts} {us} {vs} {zs} k h g d e f i =
+    carried-run bs 11 xs 0 32 (8 ∷ 8 ∷ 4 ∷ []) h (omega arith) d (us, e, (vs, f, (zs, i, refl)))
+    ∙ ap (overlay xs 0)
+    (sym (fields-run instrumentRows bs 11
+    (refl, refl, (refl, refl, (refl, refl, (refl, refl, (refl, refl, (refl, refl, (refl, refl, (refl, refl, (refl, refl, (refl, refl, (refl, refl, (refl, refl, tt))))))))))))
+    (lent-bytes bs k) h))
+
+pub start-carried : (xs bs : List ℕ) {ts us vs zs : List ℕ} → 63 ≤ length bs → rowSize ≤ length xs
+    → ts ≡ overlay xs 0 (part bs 11 8) → us ≡ overlay ts 8 (part bs 19 8) → vs ≡ overlay us 16 (part bs 27 8) → zs ≡ overlay vs 24 (part bs 35 8)
+    → zs ≡ overlay xs 0 (part bs 11 32)
+start-carried xs bs {ts} {us} {vs} {zs} h g d e f i =
+    carried-run bs 11 xs 0 8 (8 ∷ 8 ∷ 8 ∷ []) (omega arith) (omega arith) d (us, e, (vs, f, (zs, i, refl)))
+
+-- five short numbers, each widened
+pub short-wired : (xs bs : List ℕ) (at from : ℕ) {a b p d e f : ℕ} {us vs ws ys zs : List ℕ} → at + 20 ≤ length xs
+    → a ≡ be (part bs from 2) → us ≡ overlay xs at (bytesBe 4 a)
+    → b ≡ be (part bs (from + 2) 2) → p ≡ tenThousandths b → vs ≡ overlay us (at + 4) (bytesBe 4 p)
+    → d ≡ be (part bs (from + 4) 2) → ws ≡ overlay vs (at + 8) (bytesBe 4 d)
+    → e ≡ be (part bs (from + 6) 2) → ys ≡ overlay ws (at + 12) (bytesBe 4 e)
+    → f ≡ be (part bs (from + 8) 2) → zs ≡ overlay ys (at + 16) (bytesBe 4 f)
+    → zs ≡ overlay xs at (bytesFor (longNumbersRows at) (longNumbersFields (shortIn from bs)))
+unfolding values
+short-wired xs bs at from h i e j k f l g m o n q =
+    long-numbers-put xs at (shortIn from bs) h (rw i at e) (rw (k, j) at f) (rw l at g) (rw m at o) (rw n at q)
+
+-- ---- a trading action, a directory
+
+pub action-wired : (xs bs : List ℕ) {v : ℕ} {us zs : List ℕ} → v ≡ be (part bs 15 1) → us ≡ overlay xs 52 (bytesBe 1 v)
+    → zs ≡ overlay us 96 (bytesFor stampRows (stampFields (stampIn bs))) → zs ≡ changed (actionChanges (actionIn bs)) xs
+unfolding values
+action-wired xs bs i e f = action-put xs (actionIn bs) (rw i at e) f
+
+module _ (xs bs : List ℕ) {v : ℕ} {us vs : List ℕ} (e : us ≡ overlay xs 0 (bytesFor instrumentRows (instrumentFields (instrumentIn bs) (textsIn bs))))
+    (f : vs ≡ overlay us 96 (bytesFor stampRows (stampFields (stampIn bs)))) (i : v ≡ be (part bs 45 1)) where
+  pub directory-wired : {zs : List ℕ} → v ≡ 78 → zs ≡ changed purge vs → zs ≡ changed (directoryChanges (directoryIn bs) (textsIn bs)) xs
+  unfolding values
+  directory-wired n g = directory-put xs (directoryIn bs) (textsIn bs) e f (sym i ∙ n) g
+
+  pub directory-wired-kept : (v ≡ 78 → ⊥) → vs ≡ changed (directoryChanges (directoryIn bs) (textsIn bs)) xs
+  unfolding values
+  directory-wired-kept n = directory-kept xs (directoryIn bs) (textsIn bs) e f (λ z. n (i ∙ z))
+
+-- eight bytes are the symbol, and eight the date, the strike and the type
+pub fixed-wired : (xs bs : List ℕ) {a b d e : ℕ} → Lent xs → Lent bs → rowSize ≤ length xs → 63 ≤ length bs → a ≡ be (part xs 4 8) → b ≡ be (part bs 15 8)
+    → d ≡ be (part xs 12 8) → e ≡ be (part bs 23 8) → eqb a b && eqb d e ≡ unchanged (instrumentIn bs) (textsIn bs) xs
+unfolding unchanged values
+fixed-wired xs bs k l h g p q r s =
+    rw (
+      p,
+      q,
+      r,
+      s,
+      part-numbers xs bs (lent-bytes xs k) (lent-bytes bs l) 8 4 15 (omega arith) (omega arith),
+      part-numbers xs bs (lent-bytes xs k) (lent-bytes bs l) 8 12 23 (omega arith) (omega arith),
+      fields-same xs bs (lent-bytes xs k) (lent-bytes bs l) (1 ∷ 1 ∷ 1 ∷ 4 ∷ 1 ∷ []) 12 23 (omega arith) (omega arith),
+    )
+    (simp and-true)
+
+-- ---- the sides of a quote
+
+pub side-early : (xs : List ℕ) (side : Side) (n : LongNumbers) (seen : ℕ) {w at : ℕ} {us zs : List ℕ} → seen ≡ sidesOf xs → w ≡ seenWith side seen
+    → us ≡ overlay xs 54 (bytesBe 1 w) → at ≡ sideAt side → zs ≡ overlay us at (bytesFor (longNumbersRows at) (longNumbersFields n))
+    → zs ≡ changed (sidesChanges (One side n) (sidesOf xs)) xs
+side-early xs side n seen s p e q f = side-put xs side n (sidesOf xs) refl (p ∙ ap (seenWith side) s) e q f
+
+pub both-early : (xs : List ℕ) (bid ask : LongNumbers) (seen : ℕ) {v w : ℕ} {us vs zs : List ℕ} → seen ≡ sidesOf xs → v ≡ seenWith Bid seen
+    → w ≡ seenWith Ask v → us ≡ overlay xs 54 (bytesBe 1 w) → vs ≡ overlay us 56 (bytesFor (longNumbersRows 56) (longNumbersFields bid))
+    → zs ≡ overlay vs 76 (bytesFor (longNumbersRows 76) (longNumbersFields ask)) → zs ≡ changed (sidesChanges (Both bid ask) (sidesOf xs)) xs
+both-early xs bid ask seen s p q e f g = both-put xs bid ask (sidesOf xs) refl (p ∙ ap (seenWith Bid) s) q e f g
+
+-- the numbers first
+
+module _ (xs : List ℕ) (h : rowSize ≤ length xs) (n : LongNumbers) where
+  numbers-length : (at : ℕ) → length (bytesFor (longNumbersRows at) (longNumbersFields n)) ≡ 20
+  unfolding bytesFor digits
+  numbers-length at = refl
+
+  -- numbers at `at` and the sides seen may change places
+  late : (at w : ℕ) → 55 ≤ at → at + 20 ≤ length xs
+      → overlay (overlay xs at (bytesFor (longNumbersRows at) (longNumbersFields n))) 54 (bytesBe 1 w)
+      ≡ overlay (overlay xs 54 (bytesBe 1 w)) at (bytesFor (longNumbersRows at) (longNumbersFields n))
+  unfolding digits
+  late at w a b = sym (overlay-swap xs 54 (bytesBe 1 w) at (bytesFor (longNumbersRows at) (longNumbersFields n)) a (rw (numbers-length at) b))
+
+  still : (at : ℕ) → at + 20 ≤ length xs → length (overlay xs at (bytesFor (longNumbersRows at) (longNumbersFields n))) ≡ length xs
+  still at b = overlay-length xs at (bytesFor (longNumbersRows at) (longNumbersFields n)) (rw (numbers-length at) b)
+
+side-room : (side : Side) → (55 ≤ sideAt side) × (sideAt side ≤ 76)
+side-room Bid = (omega arith, omega arith)
+side-room Ask = (omega arith, omega arith)
+
+pub side-late : (xs : List ℕ) (side : Side) (n : LongNumbers) (seen : ℕ) {w at : ℕ} {us zs : List ℕ} → rowSize ≤ length xs → seen ≡ sidesOf xs
+    → at ≡ sideAt side → us ≡ overlay xs at (bytesFor (longNumbersRows at) (longNumbersFields n)) → w ≡ seenWith side seen → zs ≡ overlay us 54 (bytesBe 1 w)
+    → zs ≡ changed (sidesChanges (One side n) (sidesOf xs)) xs
+unfolding changed sidesChanges
+side-late xs side n seen {w} {at} {us} {zs} h s q f p e =
+    let r = side-room side in
+    e ∙ ap (λ (u : List ℕ). overlay u 54 (bytesBe 1 w)) (f ∙ ap (λ (i : ℕ). overlay xs i (bytesFor (longNumbersRows i) (longNumbersFields n))) q)
+    ∙ late xs h n (sideAt side) w (r .0) (omega (arith, r .1))
+    ∙ ap (λ (v : ℕ). overlay (overlay xs 54 (bytesBe 1 v)) (sideAt side) (bytesFor (longNumbersRows (sideAt side)) (longNumbersFields n))) (p ∙ ap (seenWith side) s)
+
+pub both-late : (xs : List ℕ) (bid ask : LongNumbers) (seen : ℕ) {v w : ℕ} {us vs zs : List ℕ} → rowSize ≤ length xs → seen ≡ sidesOf xs
+    → us ≡ overlay xs 56 (bytesFor (longNumbersRows 56) (longNumbersFields bid)) → vs ≡ overlay us 76 (bytesFor (longNumbersRows 76) (longNumbersFields ask))
+    → v ≡ seenWith Bid seen → w ≡ seenWith Ask v → zs ≡ overlay vs 54 (bytesBe 1 w)
+    → zs ≡ changed (sidesChanges (Both bid ask) (sidesOf xs)) xs
+unfolding changed sidesChanges
+both-late xs bid ask seen {v} {w} {us} {vs} {zs} h s e f p q g =
+    let l : length us ≡ length xs = ap length e ∙ still xs h bid 56 (omega arith) in
+    g ∙ ap (λ (u : List ℕ). overlay u 54 (bytesBe 1 w)) f
+    ∙ late us (rw l h) ask 76 w (omega arith) (rw l (omega arith))
+    ∙ ap (λ (u : List ℕ). overlay (overlay u 54 (bytesBe 1 w)) 76 (bytesFor (longNumbersRows 76) (longNumbersFields ask))) e
+    ∙ ap (λ (u : List ℕ). overlay u 76 (bytesFor (longNumbersRows 76) (longNumbersFields ask))) (late xs h bid 56 w (omega arith) (omega arith))
+    ∙ rw (q, p, s)
+
+-- ---- a quote
+
+-- neither condition nor stamp is among the sides seen
+module _ (xs bs : List ℕ) {v : ℕ} {us vs : List ℕ} (h : rowSize ≤ length xs) (i : v ≡ be (part bs 15 1)) (e : us ≡ overlay xs 53 (bytesBe 1 v))
+    (f : vs ≡ overlay us 96 (bytesFor stampRows (stampFields (stampIn bs)))) where
+  seen-kept : sidesOf vs ≡ sidesOf xs
+  unfolding digits bytesFor values
+  seen-kept =
+      let l : length us ≡ length xs = ap length e ∙ overlay-length xs 53 (bytesBe 1 v) (omega arith) in
+      ap be (ap (λ (u : List ℕ). part u 54 1) f ∙ part-before us 96 (bytesFor stampRows (stampFields (stampIn bs))) (rw l (omega arith)) 54 1 (omega arith)
+      ∙ ap (λ (u : List ℕ). part u 54 1) e ∙ part-after xs 53 (bytesBe 1 v) (omega arith) 54 1 (omega arith))
+
+  pub quote-wire : (sides : Sides) {zs : List ℕ} → sidesIn (getD bs 0 0) bs ≡ sides → zs ≡ changed (sidesChanges sides (sidesOf vs)) vs → zs ≡ changed (quoteChanges (quoteIn bs) xs) xs
+  quote-wire sides s g =
+      quote-put xs (quoteIn bs) (sym refl) (rw i at e) f (g ∙ ap (λ (n : ℕ). changed (sidesChanges sides n) vs) seen-kept ∙ ap (λ (x : Sides). changed (sidesChanges x (sidesOf xs)) vs) (sym s))
+
+module _ (bs : List ℕ) where
+  pub arm-b : getD bs 0 0 ≡ 98 → sidesIn (getD bs 0 0) bs ≡ One Bid (shortIn 16 bs)
+  unfolding sidesIn
+  arm-b e = rw e refl
+
+  pub arm-a : getD bs 0 0 ≡ 97 → sidesIn (getD bs 0 0) bs ≡ One Ask (shortIn 16 bs)
+  unfolding sidesIn
+  arm-a e = rw e refl
+
+  pub arm-q : getD bs 0 0 ≡ 113 → sidesIn (getD bs 0 0) bs ≡ Both (shortIn 16 bs) (shortIn 26 bs)
+  unfolding sidesIn
+  arm-q e = rw e refl
+
+  pub arm-B : getD bs 0 0 ≡ 66 → sidesIn (getD bs 0 0) bs ≡ One Bid (longIn 16 bs)
+  unfolding sidesIn
+  arm-B e = rw e refl
+
+  pub arm-A : getD bs 0 0 ≡ 65 → sidesIn (getD bs 0 0) bs ≡ One Ask (longIn 16 bs)
+  unfolding sidesIn
+  arm-A e = rw e refl
+
+  pub arm-Q : (getD bs 0 0 ≡ 98 → ⊥) → (getD bs 0 0 ≡ 97 → ⊥) → (getD bs 0 0 ≡ 113 → ⊥) → (getD bs 0 0 ≡ 66 → ⊥) → (getD bs 0 0 ≡ 65 → ⊥)
+      → sidesIn (getD bs 0 0) bs ≡ Both (longIn 16 bs) (longIn 36 bs)
+  unfolding sidesIn
+  arm-Q b a q B A = rw (ne-eqb (getD bs 0 0) 98 b, ne-eqb (getD bs 0 0) 97 a, ne-eqb (getD bs 0 0) 113 q, ne-eqb (getD bs 0 0) 66 B, ne-eqb (getD bs 0 0) 65 A)
+
+-- ---- room for a quote
+
+pub head-room : (bs : List ℕ) → (quoteLength (getD bs 0 0) ≡ 0 → ⊥) → length bs ≡ quoteLength (getD bs 0 0) → 16 ≤ length bs
+unfolding quoteLength
+head-room bs h e = rw e (quotes bs (getD bs 0 0) h .head)
+
+pub arm-room : (k n : ℕ) (bs : List ℕ) → getD bs 0 0 ≡ k → length bs ≡ quoteLength (getD bs 0 0) → quoteLength k ≡ n → n ≤ length bs
+arm-room k n bs e h q = let f : length bs ≡ n = h ∙ ap quoteLength e ∙ q in omega arith
+
+pub last-room : (bs : List ℕ) → (getD bs 0 0 ≡ 98 → ⊥) → (getD bs 0 0 ≡ 97 → ⊥) → (getD bs 0 0 ≡ 113 → ⊥) → (getD bs 0 0 ≡ 66 → ⊥) → (getD bs 0 0 ≡ 65 → ⊥)
+    → (quoteLength (getD bs 0 0) ≡ 0 → ⊥) → length bs ≡ quoteLength (getD bs 0 0) → 56 ≤ length bs
+unfolding quoteLength quoteLetters letterAmong
+last-room bs b a q B A some e = by (ℕ-discrete (getD bs 0 0) 81)
+  where
+    by : Dec (getD bs 0 0 ≡ 81) → 56 ≤ length bs
+    by (yes is) = arm-room 81 56 bs is e refl
+    by (no not) = absurd (some (sym (quote-none (getD bs 0 0) q not b a B A)))

@@ -1,0 +1,14 @@
+-- `row::wire::put_new` meets its contract.
+-- Assumes nothing.
+use borrow.Author.Needs.{needs}
+use Rattle.row.proofs.Puts.{new-put}
+use Rattle.row.proofs.wire.put_new.Statement.{statement}
+use Rattle.row.proofs.wire.put_new.Tie as tie
+
+returns : tie.Need-returns
+returns c = search (new-put, needs)
+
+pub put-new-spec : {M : Type 1} → statement M
+put-new-spec =
+    tie.close
+    (tie.spec (λ c κs. search needs) (λ c κs. search needs) (λ c κs. search needs) (λ c κs. search needs) (λ c. search needs) returns)
