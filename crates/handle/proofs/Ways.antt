@@ -55,6 +55,32 @@ head-read bs len s k l n r e v d f u =
       used = u i;
     }
 
+-- single fields
+module _ (bs : List ℕ) {v : ℕ} where
+  pub next-read : v ≡ be (part bs 0 8) → v ≡ headOf bs .line .next
+  unfolding headOf values
+  next-read e = e
+
+  pub rows-read : v ≡ be (part bs 16 8) → v ≡ headOf bs .board .rows
+  unfolding headOf values
+  rows-read e = e
+
+  pub used-read : v ≡ be (part bs 24 8) → v ≡ headOf bs .used
+  unfolding headOf values
+  used-read e = e
+
+  pub logged-read : v ≡ be (part bs 43 1) → eqb v 1 ≡ headOf bs .line .logged
+  unfolding headOf values
+  logged-read e = ap (λ (x : ℕ). eqb x 1) e
+
+  pub ended-read : v ≡ be (part bs 44 1) → eqb v 1 ≡ headOf bs .ended
+  unfolding headOf values
+  ended-read e = ap (λ (x : ℕ). eqb x 1) e
+
+  pub refusal-read : v ≡ be (part bs 45 1) → v ≡ headOf bs .refusal
+  unfolding headOf values
+  refusal-read e = e
+
 -- ---- written
 
 module _ (xs : List ℕ) (h : Head) (len : length xs ≡ handleSize) where

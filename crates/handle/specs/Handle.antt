@@ -4,7 +4,8 @@ use Prim.Native.Nat.{ℕ, _+_}
 use mathlib.Core.Bool.{Bool, _&&_, cond}
 use mathlib.Core.List.{List, [], _∷_, _++_}
 use lib.Dec.{eqb, leb}
-use lib.ListN.{length}
+use lib.ListN.{length, getD}
+use Rattle.field.specs.Bytes.{part, overlay, bytesBe}
 use Rattle.message.specs.Layout.{Value, num, raw, numberAt, bytesAt, binary, bytes, Row, row, values, keepsAll, bytesFor}
 use Rattle.message.specs.Letters.{anything}
 use Rattle.packet.specs.Frame.{heldSize}
@@ -93,3 +94,41 @@ markBytes h = bytesFor markRows (markFields h)
 
 unfoldable pub headBytes : Head → List ℕ
 headBytes h = bytesFor headRows (headFields h)
+
+-- a head, and behind it the places of held bytes
+unfoldable pub handleBytes : Head → List ℕ → List ℕ
+handleBytes h held = headBytes h ++ held
+
+-- the places of held bytes of a handle
+abbrev pub placesIn : List ℕ → List ℕ
+placesIn bs = part bs headSize heldSize
+
+-- ---- one field of a handle, by its row in the layout
+
+abbrev pub nextField : ℕ
+nextField = 0
+
+abbrev pub liveField : ℕ
+liveField = 1
+
+abbrev pub rowsField : ℕ
+rowsField = 2
+
+abbrev pub usedField : ℕ
+usedField = 3
+
+abbrev pub endedField : ℕ
+endedField = 7
+
+abbrev pub refusalField : ℕ
+refusalField = 8
+
+abbrev pub eventField : ℕ
+eventField = 9
+
+abbrev pub fieldRow : ℕ → Row
+fieldRow i = getD headRows i (row 0 0 bytes)
+
+-- a number is laid over the field, and every other byte stays
+abbrev pub withField : ℕ → ℕ → List ℕ → List ℕ
+withField i v bs = overlay bs (fieldRow i .at) (bytesBe (fieldRow i .width) v)

@@ -1,5 +1,6 @@
 pub mod Rules
 pub mod Ways
+pub mod Messages
 pub mod Frame
 pub mod Cut
 pub mod Step

@@ -101,6 +101,15 @@ packetBy l body (Row size means place) =
 unfoldable pub packetOf : Line → ℕ → List ℕ → Packet
 packetOf l letter body = packetBy l body (entryOf letter packetTable)
 
+abbrev pub isMessage : Packet → Bool
+isMessage (Login n) = false
+isMessage (Rejected reason) = false
+isMessage Message = true
+isMessage Heartbeat = false
+isMessage End = false
+isMessage Skipped = false
+isMessage (Refused fault) = false
+
 -- what the table has seen to before a meaning is looked at
 abbrev pub BodyFits : Meaning → ℕ → Type 0
 BodyFits meaning.LoginAccepted n = n ≡ loginSize

@@ -1,7 +1,7 @@
 -- The packet table of document 01, and what a row of it asks.
 -- Assumes nothing.
 use Prim.Native.Nat.{ℕ}
-use mathlib.Core.Bool.{Bool, true, cond, not}
+use mathlib.Core.Bool.{Bool, true, false, cond, not}
 use mathlib.Core.List.{List, [], _∷_}
 use lib.Dec.{eqb}
 use Rattle.packet.specs.declared.table.Size.{Size}
@@ -38,6 +38,15 @@ packetTable =
 unfoldable pub entryOf : ℕ → List TableRow → Entry
 entryOf letter [] = Missing
 entryOf letter (r ∷ rs) = cond (eqb letter (r .letter)) (Row (r .size) (r .meaning) (r .place)) (entryOf letter rs)
+
+-- does a packet of that meaning take a number?
+abbrev pub takesNumber : Meaning → Bool
+takesNumber LoginAccepted = false
+takesNumber LoginRejected = false
+takesNumber Message = true
+takesNumber Heartbeat = false
+takesNumber EndOfSession = false
+takesNumber Skipped = false
 
 -- does a packet of that place belong on a line that is logged in, or is not?
 abbrev pub inPlace : Place → Bool → Bool

@@ -3,12 +3,14 @@ use crate::table::Entry;
 use crate::table::Meaning;
 use field::decimal::Number;
 ghost use mathlib.Core.Path.{_≡_};
-ghost use Prim.Native.Nat.{_+_, _≤_, _<_};
+ghost use mathlib.Core.List.{List};
+ghost use Prim.Native.Nat.{ℕ, _+_, _≤_, _<_};
 ghost use lib.ListN.{length};
 ghost use Rattle.field.specs.Bytes.{part, overlay};
 ghost use Rattle.field.specs.Limits.{highestNumber};
 ghost use Rattle.packet.specs.Frame.{heldSize, roomFor, frame, frontOf};
-ghost use Rattle.packet.specs.Line.{sessionSize, loginSize, loginSession, freshLine, waiting, loggedIn, counted, follows, loginOf, BodyFits, meantOf, packetOf};
+ghost use Rattle.packet.specs.Line.{sessionSize, loginSize, loginSession, freshLine, waiting, loggedIn, counted, follows, loginOf, BodyFits, meantOf, packetOf, isMessage};
+ghost use Rattle.packet.specs.declared.Line.{Line};
 
 pub mod numbering;
 mod table;
@@ -167,6 +169,19 @@ pub fn judge(line: Line, letter: u8, body: &[u8]) -> Packet
                 return Packet::Refused(Fault::BadForm);
             }
             meant(line, body, meaning)
+        }
+    }
+}
+
+// Is a packet with that letter, whatever its body, a message that takes the next number?
+pub fn is_message(logged: bool, next: u64, letter: u8) -> bool
+    ensures { λ r. ⌜ ((l : Line) (body : List ℕ) → l .logged ≡ logged → l .next ≡ next → r ≡ isMessage (packetOf l letter body)) ⌝ }
+{
+    match table::row_of(letter) {
+        Entry::Missing => false,
+        Entry::Row(_, meaning, place) => {
+            table::takes_number(meaning)
+                & (table::in_place(place, logged) & !numbering::none_left(next))
         }
     }
 }

@@ -2,7 +2,7 @@
 ghost use mathlib.Core.Path.{_≡_};
 ghost use Prim.Native.Nat.{_+_};
 ghost use lib.ListN.{length};
-ghost use Rattle.packet.specs.Table.{packetTable, entryOf, inPlace, ofSize};
+ghost use Rattle.packet.specs.Table.{packetTable, entryOf, takesNumber, inPlace, ofSize};
 
 pub enum Size {
     Exact(usize),
@@ -40,6 +40,20 @@ pub fn row_of(letter: u8) -> Entry
         b'Z' => Entry::Row(Size::Exact(1), Meaning::EndOfSession, Place::AfterLogin),
         b'+' | b'U' => Entry::Row(Size::Any, Meaning::Skipped, Place::Anywhere),
         _ => Entry::Missing,
+    }
+}
+
+// Does a packet of that meaning take a number?
+pub fn takes_number(meaning: Meaning) -> bool
+    ensures { λ r. ⌜ r ≡ takesNumber meaning ⌝ }
+{
+    match meaning {
+        Meaning::LoginAccepted => false,
+        Meaning::LoginRejected => false,
+        Meaning::Message => true,
+        Meaning::Heartbeat => false,
+        Meaning::EndOfSession => false,
+        Meaning::Skipped => false,
     }
 }
 
