@@ -3,7 +3,7 @@
 use mathlib.Core.Path.{_≡_, refl, sym, ap, _∙_}
 use mathlib.Core.Bool.{_&&_, and-true}
 use mathlib.Core.List.{List, [], _∷_}
-use Prim.Native.Nat.{ℕ, _+_, _≤_, _<_}
+use Prim.Native.Nat.{ℕ, _+_, _≤_}
 use native.Mathlib.Decide.{ℕ-discrete}
 use native.Mathlib.Omega.{arith}
 use borrow.Author.Tests.{ne-eqb}
@@ -23,7 +23,7 @@ use Rattle.message.specs.declared.LongNumbers.{LongNumbers}
 use Rattle.message.specs.declared.Side.{Side}
 use Rattle.message.specs.declared.Side.the-variants.{Bid, Ask}
 use Rattle.message.proofs.Layouts.{fields-run}
-use Rattle.message.proofs.Tested.{Quotes, quotes, quote-none}
+use Rattle.message.proofs.Tested.{quotes, quote-none}
 use Rattle.message.proofs.Puts.{long-numbers-put}
 use Rattle.row.specs.Fields.{rowSize, sideAt, sidesOf, seenWith}
 use Rattle.row.specs.Changes.{changed, purge, directoryChanges, unchanged, actionChanges, sidesChanges, quoteChanges}

@@ -7,7 +7,7 @@ use lib.Dec.{eqb}
 use lib.ListN.{getD}
 use Rattle.field.specs.Bytes.{part, be}
 use Rattle.message.specs.Layout.{values}
-use Rattle.message.specs.Letters.{stampRows, stampOf, shortNumbersRows, shortNumbersOf, longNumbersRows, longNumbersOf, instrumentRows, instrumentOf, textsOf, directoryRows, directoryOf, tradingActionRows, tradingActionOf}
+use Rattle.message.specs.Letters.{stampRows, stampOf, shortNumbersRows, shortNumbersOf, longNumbersRows, longNumbersOf, instrumentRows, instrumentOf, textsOf, tradingActionRows, tradingActionOf}
 use Rattle.message.specs.declared.Stamp.{Stamp}
 use Rattle.message.specs.declared.LongNumbers.{LongNumbers}
 use Rattle.message.specs.declared.Directory.{Directory}

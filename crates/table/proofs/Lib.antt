@@ -1,5 +1,6 @@
 pub mod Search
 pub mod Ways
+pub mod Wired
 pub mod Rows
 pub mod Kept
 pub mod Exactly

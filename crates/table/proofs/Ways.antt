@@ -34,17 +34,17 @@ use Rattle.table.proofs.Search.{found}
 -- ---- a row that is lent
 
 -- the bytes of row k, as they are lent
-abbrev lent : ℕ → List ℕ → List ℕ
+abbrev pub lent : ℕ → List ℕ → List ℕ
 lent k mem = part mem (k * rowSize) (k * rowSize + rowSize - k * rowSize)
 
-abbrev back : ℕ → List ℕ → List ℕ → List ℕ
+abbrev pub back : ℕ → List ℕ → List ℕ → List ℕ
 back k mem r = putMid (k * rowSize) (k * rowSize + rowSize - k * rowSize) mem r
 
-row-lent : (k : ℕ) (mem : List ℕ) → lent k mem ≡ row k mem
+pub row-lent : (k : ℕ) (mem : List ℕ) → lent k mem ≡ row k mem
 unfolding row
 row-lent k mem = ap (part mem (k * rowSize)) {x = k * rowSize + rowSize - k * rowSize} {y = rowSize} (omega arith)
 
-row-back : (k : ℕ) (mem r : List ℕ) → k * rowSize + rowSize ≤ length mem → length r ≡ k * rowSize + rowSize - k * rowSize → back k mem r ≡ withRow k r mem
+pub row-back : (k : ℕ) (mem r : List ℕ) → k * rowSize + rowSize ≤ length mem → length r ≡ k * rowSize + rowSize - k * rowSize → back k mem r ≡ withRow k r mem
 unfolding withRow
 row-back k mem r h e = part-back (k * rowSize) (k * rowSize + rowSize) mem r (omega arith) h e
 

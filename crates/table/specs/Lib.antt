@@ -2,3 +2,4 @@ pub mod Memory
 pub mod Board
 pub mod Places
 pub mod Rules
+pub mod Wire

@@ -14,6 +14,7 @@ ghost use Rattle.table.specs.declared.Found.the-variants.{At, Nothing};
 
 mod quotes;
 mod walk;
+pub mod wire;
 
 pub const MOST_ROWS: usize = 256;
 

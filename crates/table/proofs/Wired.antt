@@ -1,0 +1,247 @@
+-- What bytes say to the table is what the message that they are read as does to it; and each way through the code says it.
+-- Assumes nothing.
+use mathlib.Core.Path.{_≡_, refl, sym, ap, _∙_}
+use mathlib.Core.Bool.{Bool, true, false, cond, not}
+use mathlib.Core.List.{List, [], _∷_}
+use Prim.Native.Nat.{ℕ, _+_, _-_, _*_, _≤_, _<_}
+use native.Mathlib.Decide.{ℕ-discrete}
+use native.Mathlib.Omega.{arith}
+use borrow.Author.Tests.{ne-eqb, le-leb, lt-leb, not-true, not-false}
+use lib.ListN.{length, getD}
+use Rattle.field.specs.Bytes.{part, be}
+use Rattle.field.proofs.Parts.{overlay-own}
+use Rattle.message.specs.Layout.{values}
+use Rattle.message.specs.Feed.{Letter, letterAmong, Sized}
+use Rattle.message.specs.Letters.{Content, letters, letterIn, unlisted}
+use Rattle.message.specs.Message.{refused, told, readOf}
+use Rattle.message.specs.Message as message
+use Rattle.message.specs.Test.{testedAs, quoteLength}
+use Rattle.message.specs.declared.Message.{Message}
+use Rattle.message.specs.declared.Texts.{Texts}
+use Rattle.message.specs.declared.Reading.{Reading}
+use Rattle.message.specs.declared.Answer.{Answer}
+use Rattle.message.specs.declared.Answer.the-variants.{Is, Refused}
+use Rattle.message.specs.declared.Refusal.the-variants.{UnknownLetter, WrongLength, BadField}
+use Rattle.message.proofs.Feeds.{Verdict, empty, unknown, long, field, whole, found}
+use Rattle.message.proofs.Table.{room}
+use Rattle.message.proofs.Verdicts.{Fine, Taken, read-verdict, accepted-exactly, clash}
+use Rattle.message.proofs.Tested.{quotes, rare-last}
+use Rattle.row.specs.Fields.{rowSize, takesQuote}
+use Rattle.row.specs.Changes.{changed, newRow, unchanged, directoryChanges, actionChanges, quoteChanges}
+use Rattle.row.specs.Wire.{sidesIn, actionIn, instrumentIn, directoryIn, textsIn, quoteIn}
+use Rattle.table.specs.Memory.{mostRows, tableSize, row, withRow, rowFor}
+use Rattle.table.specs.Board as board
+use Rattle.table.specs.Board.{Outcome, lookFor, effectAt, effect, directoryAt, actionAt, quoteAt}
+use Rattle.table.specs.Wire.{placed, Rowed, Placeable, effectIn, AtRow, AtNone}
+use Rattle.table.specs.declared.Found.{Found}
+use Rattle.table.specs.declared.Found.the-variants.{At, Nothing}
+use Rattle.table.specs.declared.Board.{Board}
+use Rattle.table.specs.declared.Refusal.{Refusal}
+use Rattle.table.specs.declared.Refusal.the-variants.{NoRow, NoQuotes, FixedField, TableFull}
+use Rattle.table.specs.declared.wire.Placed.{Placed}
+use Rattle.table.specs.declared.wire.Placed.the-variants as placing
+use Rattle.table.proofs.Ways.{lent, back, row-lent, row-back}
+
+infixr 5 _also_
+abbrev _also_ : {A B : Type 0} → A → B → A × B
+a also b = (a, b)
+
+-- ---- bytes that have passed their test
+
+passed-taken : (a : Answer) → testedAs a ≡ 0 → Taken a
+passed-taken (Is m) e = tt
+passed-taken (Refused UnknownLetter) e = absurd (omega arith)
+passed-taken (Refused WrongLength) e = absurd (omega arith)
+passed-taken (Refused BadField) e = absurd (omega arith)
+
+fine-sized : (bs : List ℕ) → Fine bs → Sized (letterIn letters (getD bs 0 0)) bs
+fine-sized [] f = absurd f
+fine-sized (c ∷ bs) f = f .0
+
+module _ (bs : List ℕ) (p : Rowed bs) where
+  sized : Sized (letterIn letters (getD bs 0 0)) bs
+  sized = fine-sized bs (accepted-exactly bs .0 (passed-taken (readOf bs .answer) (p .passed)))
+
+  pub action-room : getD bs 0 0 ≡ 72 → 16 ≤ length bs
+  unfolding letters letterAmong
+  action-room e = room 72 (getD bs 0 0) bs e sized
+
+  pub directory-room : getD bs 0 0 ≡ 109 → 63 ≤ length bs
+  unfolding letters letterAmong
+  directory-room e = room 109 (getD bs 0 0) bs e sized
+
+  pub quote-room : (getD bs 0 0 ≡ 72 → ⊥) → (getD bs 0 0 ≡ 109 → ⊥) → (quoteLength (getD bs 0 0) ≡ 0 → ⊥) × (length bs ≡ quoteLength (getD bs 0 0))
+  unfolding quoteLength
+  quote-room n d =
+      let some : quoteLength (getD bs 0 0) ≡ 0 → ⊥ = λ q. p .noEnd (rare-last (getD bs 0 0) (p .noEvent) d n q (sized .isListed)) in
+      (some, sized .isLong ∙ ap (λ (l : Letter Content). l .size) (quotes bs (getD bs 0 0) some .own))
+
+  -- each of them has an id
+  pub id-room : 11 + 4 ≤ length bs
+  unfolding letters quoteLength
+  id-room = by (ℕ-discrete (getD bs 0 0) 72) (ℕ-discrete (getD bs 0 0) 109)
+    where
+      by : Dec (getD bs 0 0 ≡ 72) → Dec (getD bs 0 0 ≡ 109) → 11 + 4 ≤ length bs
+      by (yes e) d = omega (arith, action-room e)
+      by (no n) (yes e) = omega (arith, directory-room e)
+      by (no n) (no d) = let q = quote-room n d in omega (arith, q .1, quotes bs (getD bs 0 0) (q .0) .head)
+
+pub rowed : {rows : ℕ} {bs mem : List ℕ} → Placeable rows bs mem → Rowed bs
+rowed p = record { passed = p .passed; noEvent = p .noEvent; noEnd = p .noEnd }
+
+-- ---- what they are read as
+
+abbrev made : List ℕ → Content
+made bs = letterIn letters (getD bs 0 0) .makes (values (letterIn letters (getD bs 0 0) .rows) bs)
+
+read-made : {bs : List ℕ} {r : Reading} → Verdict told refused (letterIn letters) bs r → (m : Message) (t : Texts) → r ≡ message.accepted m t
+    → told (made bs) ≡ message.accepted m t
+read-made empty m t e = clash (ap (λ (r : Reading). r .answer) e)
+read-made (unknown c bs h) m t e = clash (ap (λ (r : Reading). r .answer) e)
+read-made (long c bs h l) m t e = clash (ap (λ (r : Reading). r .answer) e)
+read-made (field c bs s k) m t e = clash (ap (λ (r : Reading). r .answer) e)
+read-made (whole c bs s k) m t e = e
+
+-- letter by letter
+made-effect : (bs : List ℕ) (b : Board) (mem : List ℕ) → (getD bs 0 0 ≡ 83 → ⊥) → (getD bs 0 0 ≡ 77 → ⊥) → (letterIn letters (getD bs 0 0) .size ≡ 0 → ⊥)
+    → effect b (made bs .0) (made bs .1) mem ≡ effectIn bs b mem (rowFor (b .rows) mem (be (part bs 11 4)))
+unfolding letters values effect effectAt lookFor effectIn sidesIn
+made-effect bs b mem noEvent noEnd =
+    found unlisted
+    (λ (l : Letter Content). (l .size ≡ 0 → ⊥)
+    → effect b (l .makes (values (l .rows) bs) .0) (l .makes (values (l .rows) bs) .1) mem ≡ effectIn bs b mem (rowFor (b .rows) mem (be (part bs 11 4))))
+    (getD bs 0 0) letters (λ h. absurd (h refl))
+    ((λ e h. absurd (noEvent (sym e)))
+    also (λ e h. rw (← e))
+    also (λ e h. rw (← e))
+    also (λ e h. rw (← e))
+    also (λ e h. rw (← e))
+    also (λ e h. rw (← e))
+    also (λ e h. rw (← e))
+    also (λ e h. rw (← e))
+    also (λ e h. rw (← e))
+    also (λ e h. absurd (noEnd (sym e)))
+    also tt)
+
+told-effect : (x : Content) (b : Board) (m : Message) (t : Texts) (mem : List ℕ) → told x ≡ message.accepted m t → effect b (x .0) (x .1) mem ≡ effect b m t mem
+told-effect x b m t mem e =
+    let i : Is (x .0) ≡ Is m = ap (λ (r : Reading). r .answer) e in
+    let j : x .0 ≡ m = cc in
+    let k : x .1 ≡ t = ap (λ (r : Reading). r .texts) e in
+    rw (j, k)
+
+-- THEOREM: the effect of an accepted message is what its bytes say, at the row for the id in them
+pub effect-wired : (bs : List ℕ) (b : Board) (m : Message) (t : Texts) (mem : List ℕ) → Rowed bs → readOf bs ≡ message.accepted m t
+    → effect b m t mem ≡ effectIn bs b mem (rowFor (b .rows) mem (be (part bs 11 4)))
+effect-wired bs b m t mem p e =
+    sym (told-effect (made bs) b m t mem (read-made (read-verdict bs) m t e)) ∙ made-effect bs b mem (p .noEvent) (p .noEnd) (sized bs p .isListed)
+
+-- ---- a row lent by itself
+
+-- a row put back as it was
+row-same : (k : ℕ) (mem : List ℕ) → k * rowSize + rowSize ≤ length mem → withRow k (row k mem) mem ≡ mem
+unfolding row withRow
+row-same k mem h = overlay-own mem (k * rowSize) rowSize h
+
+-- what is refused or changed after a test of the row
+module _ (does : Board → List ℕ → Found → Outcome) (test : List ℕ → Bool) (change : List ℕ → List ℕ) (why : Refusal)
+    (is : (b : Board) (k : ℕ) (mem : List ℕ) → does b mem (At k)
+    ≡ cond (test (row k mem)) (board.accepted b (withRow k (change (row k mem)) mem)) (board.refused why b mem)) where
+  pub row-refused : {r : List ℕ} {ok : Bool} → ok ≡ test r → not ok ≡ true → AtRow does r r (placing.Refused why)
+  row-refused {r} {ok} p n = record { told = λ b k mem h e. rw (is b k mem, e, ← p, not-true ok n, ← e, row-same k mem h) }
+
+  pub row-kept : {r z : List ℕ} {ok : Bool} → ok ≡ test r → not ok ≡ false → z ≡ change r → AtRow does r z placing.Kept
+  row-kept {r} {z} {ok} p y f = record { told = λ b k mem h e. rw (is b k mem, e, ← p, not-false ok y, f) }
+
+module _ (bs : List ℕ) {r : List ℕ} where
+  pub action-kept : {z : List ℕ} → z ≡ changed (actionChanges (actionIn bs)) r → AtRow (λ b. actionAt b (actionIn bs)) r z placing.Kept
+  unfolding actionAt
+  action-kept = row-kept (λ b. actionAt b (actionIn bs)) (λ x. true) (changed (actionChanges (actionIn bs))) NoRow (λ b k mem. refl) refl refl
+
+  module _ {ok : Bool} (p : ok ≡ takesQuote r) where
+    pub quote-refused : not ok ≡ true → AtRow (λ b. quoteAt b (quoteIn bs)) r r (placing.Refused NoQuotes)
+    unfolding quoteAt
+    quote-refused = row-refused (λ b. quoteAt b (quoteIn bs)) takesQuote (λ x. changed (quoteChanges (quoteIn bs) x) x) NoQuotes (λ b k mem. refl) p
+
+    pub quote-kept : {z : List ℕ} → not ok ≡ false → z ≡ changed (quoteChanges (quoteIn bs) r) r → AtRow (λ b. quoteAt b (quoteIn bs)) r z placing.Kept
+    unfolding quoteAt
+    quote-kept = row-kept (λ b. quoteAt b (quoteIn bs)) takesQuote (λ x. changed (quoteChanges (quoteIn bs) x) x) NoQuotes (λ b k mem. refl) p
+
+  module _ {ok : Bool} (p : ok ≡ unchanged (instrumentIn bs) (textsIn bs) r) where
+    pub relist-refused : not ok ≡ true → AtRow (λ b. directoryAt b (directoryIn bs) (textsIn bs)) r r (placing.Refused FixedField)
+    unfolding directoryAt
+    relist-refused =
+        row-refused (λ b. directoryAt b (directoryIn bs) (textsIn bs)) (unchanged (instrumentIn bs) (textsIn bs)) (changed (directoryChanges (directoryIn bs) (textsIn bs))) FixedField (λ b k mem. refl) p
+
+    pub relist-kept : {z : List ℕ} → not ok ≡ false → z ≡ changed (directoryChanges (directoryIn bs) (textsIn bs)) r
+        → AtRow (λ b. directoryAt b (directoryIn bs) (textsIn bs)) r z placing.Kept
+    unfolding directoryAt
+    relist-kept =
+        row-kept (λ b. directoryAt b (directoryIn bs) (textsIn bs)) (unchanged (instrumentIn bs) (textsIn bs)) (changed (directoryChanges (directoryIn bs) (textsIn bs))) FixedField (λ b k mem. refl) p
+
+-- by the letter
+module _ (bs : List ℕ) (b : Board) (mem : List ℕ) (w : Found) where
+  by-action : getD bs 0 0 ≡ 72 → effectIn bs b mem w ≡ actionAt b (actionIn bs) mem w
+  unfolding effectIn
+  by-action e = rw e
+
+  by-directory : getD bs 0 0 ≡ 109 → effectIn bs b mem w ≡ directoryAt b (directoryIn bs) (textsIn bs) mem w
+  unfolding effectIn
+  by-directory e = rw e
+
+  by-quote : (getD bs 0 0 ≡ 72 → ⊥) → (getD bs 0 0 ≡ 109 → ⊥) → effectIn bs b mem w ≡ quoteAt b (quoteIn bs) mem w
+  unfolding effectIn
+  by-quote n d = rw (ne-eqb (getD bs 0 0) 72 n, ne-eqb (getD bs 0 0) 109 d)
+
+row-by : (bs : List ℕ) (does : Board → List ℕ → Found → Outcome) {before after : List ℕ} {r : Placed}
+    → ((b : Board) (mem : List ℕ) (w : Found) → effectIn bs b mem w ≡ does b mem w) → AtRow does before after r → AtRow (effectIn bs) before after r
+row-by bs does is f = record { told = λ b k mem h i. f .told b k mem h i ∙ sym (is b mem (At k)) }
+
+module _ (bs : List ℕ) {before after : List ℕ} {r : Placed} where
+  pub row-action : getD bs 0 0 ≡ 72 → AtRow (λ b. actionAt b (actionIn bs)) before after r → AtRow (effectIn bs) before after r
+  row-action e = row-by bs (λ b. actionAt b (actionIn bs)) (λ b mem w. by-action bs b mem w e)
+
+  pub row-directory : getD bs 0 0 ≡ 109 → AtRow (λ b. directoryAt b (directoryIn bs) (textsIn bs)) before after r → AtRow (effectIn bs) before after r
+  row-directory e = row-by bs (λ b. directoryAt b (directoryIn bs) (textsIn bs)) (λ b mem w. by-directory bs b mem w e)
+
+  pub row-quote : (getD bs 0 0 ≡ 72 → ⊥) → (getD bs 0 0 ≡ 109 → ⊥) → AtRow (λ b. quoteAt b (quoteIn bs)) before after r → AtRow (effectIn bs) before after r
+  row-quote n d = row-by bs (λ b. quoteAt b (quoteIn bs)) (λ b mem w. by-quote bs b mem w n d)
+
+-- ---- no row for the id
+
+module _ (bs mem : List ℕ) {rows : ℕ} where
+  pub none-refused : (getD bs 0 0 ≡ 109 → ⊥) → AtNone (effectIn bs) rows mem mem (placing.Refused NoRow)
+  unfolding actionAt quoteAt
+  none-refused d = record { told = λ b q. by b (ℕ-discrete (getD bs 0 0) 72) }
+    where
+      by : (b : Board) → Dec (getD bs 0 0 ≡ 72) → placed (placing.Refused NoRow) b mem ≡ effectIn bs b mem Nothing
+      by b (yes e) = sym (by-action bs b mem Nothing e)
+      by b (no n) = sym (by-quote bs b mem Nothing n d)
+
+  module _ (e : getD bs 0 0 ≡ 109) where
+    pub add-full : mostRows ≤ rows → AtNone (effectIn bs) rows mem mem (placing.Refused TableFull)
+    unfolding directoryAt
+    add-full n = record { told = λ b q. sym (by-directory bs b mem Nothing e ∙ rw (q, le-leb mostRows rows n)) }
+
+    pub add-put : {r : List ℕ} → length mem ≡ tableSize → rows < mostRows → r ≡ newRow (directoryIn bs) (textsIn bs)
+        → length r ≡ rows * rowSize + rowSize - rows * rowSize → AtNone (effectIn bs) rows mem (back rows mem r) placing.Added
+    unfolding directoryAt
+    add-put {r} s h f l =
+        record { told = λ b q. rw (row-back rows mem r (omega arith) l) (sym (by-directory bs b mem Nothing e ∙ rw (q, lt-leb mostRows rows h, f))) }
+
+-- ---- the row for the id
+
+module _ (bs mem : List ℕ) (p : Rowed bs) {rows id : ℕ} {w : Found} (i : id ≡ be (part bs 11 4)) (f : w ≡ rowFor rows mem id) where
+  at-found : (w′ : Found) → w ≡ w′ → (b : Board) (m : Message) (t : Texts) → b .rows ≡ rows → readOf bs ≡ message.accepted m t
+      → effect b m t mem ≡ effectIn bs b mem w′
+  at-found w′ e b m t q a = effect-wired bs b m t mem p a ∙ rw (q, ← i, ← f, e)
+
+  pub place-found : {k : ℕ} {r : List ℕ} {x : Placed} → w ≡ At k → k * rowSize + rowSize ≤ length mem → AtRow (effectIn bs) (lent k mem) r x
+      → length r ≡ k * rowSize + rowSize - k * rowSize → (b : Board) (m : Message) (t : Texts) → b .rows ≡ rows → readOf bs ≡ message.accepted m t
+      → placed x b (back k mem r) ≡ effect b m t mem
+  place-found {k} {r} {x} e h g l b m t q a =
+      ap (placed x b) (row-back k mem r h l) ∙ g .told b k mem h (sym (row-lent k mem)) ∙ sym (at-found (At k) e b m t q a)
+
+  pub place-none : {zs : List ℕ} {x : Placed} → w ≡ Nothing → AtNone (effectIn bs) rows mem zs x
+      → (b : Board) (m : Message) (t : Texts) → b .rows ≡ rows → readOf bs ≡ message.accepted m t → placed x b zs ≡ effect b m t mem
+  place-none e g b m t q a = g .told b q ∙ sym (at-found Nothing e b m t q a)
