@@ -13,8 +13,8 @@ use Rattle.field.specs.Limits.{priceInRange, tenThousandths}
 use Rattle.field.specs.Text.{every, isZero}
 use Rattle.field.proofs.Parts.{part-whole, overlay-whole}
 use Rattle.field.proofs.Writes.{piece, run-joined}
-use Rattle.message.specs.Layout.{bytesFor, values, keepsAll}
-use Rattle.message.specs.Letters.{listed, states, conditions, stampRows, stampFields, longNumbersRows, longNumbersFields, instrumentRows, instrumentFields, entryRows, instrumentOf, textsOf}
+use Rattle.message.specs.Layout.{bytesFor, values}
+use Rattle.message.specs.Letters.{listed, states, conditions, stampRows, stampFields, longNumbersRows, longNumbersFields, instrumentRows, instrumentFields}
 use Rattle.message.specs.declared.Stamp.{Stamp}
 use Rattle.message.specs.declared.Side.{Side}
 use Rattle.message.specs.declared.Side.the-variants.{Bid, Ask}
@@ -26,7 +26,7 @@ use Rattle.message.specs.declared.TradingAction.{TradingAction}
 use Rattle.message.specs.declared.Texts.{Texts}
 use Rattle.row.specs.Fields.{rowSize, textsIn, idOf, tradableOf, sideAt, priceOf, hasSeen, weight, seenWith, stateTakesQuote, takesQuote}
 use Rattle.row.specs.Changes.{changed, purge, directoryChanges, unchanged, newRow, actionChanges, widened, sidesChanges, quoteChanges}
-use Rattle.row.specs.Rules.{entryKeeps, marksKeep, sideKeeps}
+use Rattle.row.specs.Rules.{marksKeep, sideKeeps}
 use Rattle.row.specs.declared.Sides.{Sides}
 use Rattle.row.specs.declared.Sides.the-variants.{One, Both}
 use Rattle.row.specs.declared.Quote.{Quote}
@@ -148,12 +148,6 @@ pub fixed-same : (xs : List ℕ) (i : Instrument) (t : Texts) {s : Bool} {year m
 unfolding unchanged values
 fixed-same xs i t a b c d e f = rw (a, b, c, d, e, f)
 
--- a row's instrument and texts, taken from it, are its own fields
-pub entry-keeps : (xs : List ℕ) {i : Instrument} {t : Texts} {r : Bool} → i ≡ instrumentOf (values entryRows xs) → t ≡ textsOf (values entryRows xs)
-    → r ≡ keepsAll instrumentRows (instrumentFields i t) → r ≡ entryKeeps xs
-unfolding entryKeeps values keepsAll
-entry-keeps xs p q e = rw (p, q) at e
-
 -- a quote is taken where the state takes one and tradable is Y
 module _ (xs : List ℕ) {state : ℕ} {quoting : Bool} (e : state ≡ be (part xs 52 1)) (f : quoting ≡ stateTakesQuote state) where
   pub state-denies : quoting ≡ false → false ≡ takesQuote xs
@@ -167,11 +161,11 @@ module _ (xs : List ℕ) {state : ℕ} {quoting : Bool} (e : state ≡ be (part 
 pub price-read : (xs : List ℕ) (side : Side) {at price : ℕ} → at ≡ sideAt side → price ≡ be (part xs (at + 4) 4) → price ≡ priceOf side xs
 price-read xs side e f = rw e at f
 
-pub side-keeps : (xs : List ℕ) (side : Side) {at sides price : ℕ} {seen zero low : Bool} → at ≡ sideAt side → sides ≡ be (part xs 54 1)
-    → seen ≡ hasSeen side sides → zero ≡ every isZero (part xs at 20) → price ≡ priceOf side xs → low ≡ priceInRange price
+pub side-keeps : (xs : List ℕ) (side : Side) {at sides : ℕ} {seen zero low : Bool} → at ≡ sideAt side → sides ≡ be (part xs 54 1)
+    → seen ≡ hasSeen side sides → zero ≡ every isZero (part xs at 20) → low ≡ priceInRange (be (part xs (at + 4) 4))
     → (seen || zero) && low ≡ sideKeeps side xs
 unfolding sideKeeps
-side-keeps xs side e f g h i j = rw (j, i, h, g, f, e)
+side-keeps xs side e f g h i = rw (i, h, g, f, e)
 
 first-or : (a b : Bool) → a || b ≡ cond a true b
 first-or true b = refl

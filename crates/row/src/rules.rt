@@ -15,7 +15,7 @@ fn entry_keeps(row: &[u8]) -> bool
     requires { ⌜ rowSize ≤ length (now row) ⌝ }
     ensures { λ r. ⌜ r ≡ entryKeeps (now (row .entry)) ⌝ }
 {
-    entry::keep(entry::instrument(row), entry::texts(row))
+    entry::keep_bytes(row)
 }
 
 fn marks_keep(row: &[u8]) -> bool
@@ -32,8 +32,8 @@ fn side_keeps(side: Side, row: &[u8]) -> bool
     ensures { λ r. ⌜ r ≡ sideKeeps side (now (row .entry)) ⌝ }
 {
     let at = fields::side_at(side);
-    (fields::has_seen(side, fields::sides(row)) | text::only(row, at, 20, 0))
-        & limits::price_in_range(fields::price(row, side))
+    (fields::has_seen(side, fields::sides(row)) | text::all(row, at, 20, 0))
+        & limits::price_keeps(row, at + 4)
 }
 
 fn bare_keeps(row: &[u8]) -> bool
@@ -47,14 +47,14 @@ fn stamp_keeps(row: &[u8]) -> bool
     requires { ⌜ rowSize ≤ length (now row) ⌝ }
     ensures { λ r. ⌜ r ≡ stampKeeps (now (row .entry)) ⌝ }
 {
-    limits::time_in_range(field::read8(row, 98))
+    limits::time_keeps(row, 98)
 }
 
 fn spare_keeps(row: &[u8]) -> bool
     requires { ⌜ rowSize ≤ length (now row) ⌝ }
     ensures { λ r. ⌜ r ≡ spareKeeps (now (row .entry)) ⌝ }
 {
-    text::only(row, 55, 1, 0) & text::only(row, 106, 18, 0)
+    text::all(row, 55, 1, 0) & text::all(row, 106, 18, 0)
 }
 
 pub fn keep(row: &[u8]) -> bool

@@ -7,7 +7,7 @@ use Rattle.row.proofs.rules.stamp_keeps.Tie as tie
 
 returns : tie.Need-returns
 unfolding stampKeeps
-returns c = rw (c .time-in-range .ensures, c .before .read8 .ensures)
+returns c = c .time-keeps .ensures
 
 pub stamp-keeps-spec : {M : Type 1} → statement M
-stamp-keeps-spec = tie.close (tie.spec (λ c κs. search needs) (λ c κs. search needs) returns)
+stamp-keeps-spec = tie.close (tie.spec (λ c κs. search needs) returns)
