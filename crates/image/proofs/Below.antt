@@ -29,6 +29,11 @@ pub below-turn : (p : ℕ → Bool) (k : ℕ) → allBelow p k ≡ true → p k 
 unfolding allBelow
 below-turn p k e f = rw (add-one, e, f)
 
+-- without a branch
+pub below-more : (p : ℕ → Bool) (k : ℕ) {so : Bool} → so ≡ allBelow p k → so && p k ≡ allBelow p (k + 1)
+unfolding allBelow
+below-more p k e = rw (add-one, e)
+
 fails : (p : ℕ → Bool) (k d : ℕ) → p k ≡ false → allBelow p (suc (d + k)) ≡ false
 unfolding allBelow
 fails p k zero e = rw (zero-add, e) (and-false (allBelow p k))
@@ -41,6 +46,11 @@ below-stop p k n h e =
 
 pub below-end : (p : ℕ → Bool) (k n : ℕ) → k ≤ n → n ≤ k → allBelow p k ≡ true → true ≡ allBelow p n
 below-end p k n h g e = let d : k ≡ n = omega arith in rw d at (sym e)
+
+pub below-same : (p q : ℕ → Bool) (n : ℕ) → ((k : ℕ) → k < n → p k ≡ q k) → allBelow p n ≡ allBelow q n
+unfolding allBelow
+below-same p q zero f = refl
+below-same p q (suc n) f = rw (below-same p q n (λ k h. f k (omega arith)), f n (omega arith))
 
 -- ---- what it says
 

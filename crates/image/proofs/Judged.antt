@@ -19,7 +19,7 @@ use Rattle.field.proofs.Numbers.{part-below}
 use Rattle.block.specs.Block.{blockSize, bodySize, headAt, sameHead, checkKeeps}
 use Rattle.block.specs.declared.Head.{Head}
 use Rattle.row.specs.Fields.{rowSize}
-use Rattle.table.specs.Memory.{rowAt}
+use Rattle.table.specs.Memory.{mostRows, rowAt}
 use Rattle.table.specs.Rules.{rowsKeep}
 use Rattle.image.specs.Shape.{pagesFor, blocksFor, mostBlocks, pages, firstPage, PagesIn, allBelow, versionFor, headFor}
 use Rattle.image.specs.Header.{headerOf}
@@ -137,6 +137,10 @@ module _ (image : List ℕ) (rows count w : ℕ) (ew : w ≡ blocksFor rows) whe
 
     pub slots-pages : count * blockSize ≤ length image → 1 ≤ count → PagesIn image firstPage blockSize (pagesFor rows)
     slots-pages l o = image-pages image (pagesFor rows) (omega (arith, pages-are))
+
+    pub slots-few : count ≤ mostBlocks → rows ≤ mostRows
+    unfolding pagesFor
+    slots-few l = omega (arith, pages-are)
 
     pub slots-rows : rows * rowSize ≤ (count - 1) * bodySize
     slots-rows = rw pages-are (rows-in-pages rows)

@@ -33,10 +33,6 @@ pub page-row : (rows k : ℕ) → k < pagesFor rows → k * pageRows < rows
 unfolding pagesFor
 page-row rows k h = omega arith
 
-pub fewer-pages : (rows more : ℕ) → rows ≤ more → pagesFor rows ≤ pagesFor more
-unfolding pagesFor
-fewer-pages rows more h = omega arith
-
 -- ---- the bytes
 
 module _ (bs : List ℕ) (base stride : ℕ) where

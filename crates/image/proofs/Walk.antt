@@ -1,14 +1,15 @@
--- The rules of rows where they lie: the rows' own, and no id twice.
+-- The rules of rows where they lie: the rows' own, and no id twice among the ids that are gathered.
 -- Assumes nothing.
 use mathlib.Core.Path.{_≡_, refl, sym, ap, _∙_}
-use mathlib.Core.Bool.{Bool, true, false, _&&_, not}
+use mathlib.Core.Bool.{Bool, true, false, _&&_, not, and-false}
 use mathlib.Core.List.{List}
-use Prim.Native.Nat.{ℕ, zero, suc, _+_, _-_, _≤_, _<_}
-use native.Mathlib.Numerals.{add-one}
+use Prim.Native.Nat.{ℕ, zero, suc, _+_, _-_, _<_}
+use native.Mathlib.Nat.{not-suc-le-zero}
+use native.Mathlib.Decide.{ℕ-discrete}
 use native.Mathlib.Omega.{arith}
-use borrow.Author.Tests.{eq-eqb, ne-eqb}
 use lib.Dec.{eqb}
-use lib.ListN.{take, drop}
+use lib.ListN.{length, take, drop, getD, set}
+use lib.Seq.{getD-set-same, getD-set-other}
 use Rattle.field.specs.Bytes.{part, be}
 use Rattle.row.specs.Fields.{rowSize, idOf}
 use Rattle.row.specs.Rules.{rowKeeps}
@@ -17,12 +18,13 @@ use Rattle.table.specs.Rules.{lacks, newId, rowsKeep}
 use Rattle.table.proofs.Search.{row-id}
 use Rattle.table.proofs.Rows.{lacks-same}
 use Rattle.image.specs.Shape.{pagesFor, pages, PagesIn, placeOf, allBelow}
-use Rattle.image.proofs.Below.{was-no, was-yes, below-turn, below-stop, below-end}
-use Rattle.image.proofs.Laid.{row-page, fewer-pages, place-row, place-id}
+use Rattle.image.specs.Ids.{goodRow, IdsOf, apart, isNew}
+use Rattle.image.proofs.Below.{was-no, was-yes, below-turn, below-stop, below-same}
+use Rattle.image.proofs.Laid.{row-page, place-row, place-id}
 
 -- ---- the rules look at the rows alone
 
-pub new-equal : (k : ℕ) (a b : List ℕ) → ((j : ℕ) → j < suc k → row j a ≡ row j b) → newId k a ≡ newId k b
+new-equal : (k : ℕ) (a b : List ℕ) → ((j : ℕ) → j < suc k → row j a ≡ row j b) → newId k a ≡ newId k b
 unfolding newId
 new-equal k a b s =
     rw (s k (omega arith), lacks-same k b a (idOf (row k b)) (λ j h. ap idOf (s j (omega arith))))
@@ -33,95 +35,69 @@ rows-equal zero a b s = refl
 rows-equal (suc n) a b s =
     rw (rows-equal n a b (λ j h. s j (omega arith)), s n (omega arith), new-equal n a b (λ j h. s j (omega arith)))
 
--- ---- and they are tests of every row
+-- ---- and they are tests of every row, and of every id
 
-abbrev otherId : List ℕ → ℕ → ℕ → Bool
-otherId mem id j = not (eqb (idOf (row j mem)) id)
-
-lacks-below : (n : ℕ) (mem : List ℕ) (id : ℕ) → allBelow (otherId mem id) n ≡ lacks n mem id
+lacks-below : (n : ℕ) (mem : List ℕ) (id : ℕ) → allBelow (λ j. not (eqb (idOf (row j mem)) id)) n ≡ lacks n mem id
 unfolding allBelow lacks
 lacks-below zero mem id = refl
 lacks-below (suc n) mem id = rw (lacks-below n mem id)
 
-abbrev goodRow : List ℕ → ℕ → Bool
-goodRow mem k = rowKeeps (row k mem) && newId k mem
+and-turn : (a b p q : Bool) → (a && b) && (p && q) ≡ (a && p) && (b && q)
+and-turn true true p q = refl
+and-turn true false p q = sym (and-false p)
+and-turn false b p q = refl
 
-keep-below : (n : ℕ) (mem : List ℕ) → allBelow (goodRow mem) n ≡ rowsKeep n mem
+keep-below : (n : ℕ) (mem : List ℕ) → rowsKeep n mem ≡ allBelow (goodRow mem) n && allBelow (λ k. newId k mem) n
 unfolding allBelow rowsKeep
 keep-below zero mem = refl
 keep-below (suc n) mem = rw (keep-below n mem)
+    (and-turn (allBelow (goodRow mem) n) (allBelow (λ k. newId k mem) n) (rowKeeps (row n mem)) (newId n mem))
 
--- ---- is the id of row k new?
+-- ---- the ids that are gathered
 
-pub lacks-none : (mem : List ℕ) (id : ℕ) → lacks 0 mem id ≡ true
-unfolding lacks
-lacks-none mem id = refl
+module _ (ids mem : List ℕ) where
+  pub ids-none : IdsOf 0 mem ids
+  ids-none k h = absurd (not-suc-le-zero h)
 
-module _ (s : List ℕ) (base stride k at id j : ℕ) (f : PagesIn s base stride (pagesFor (k + 1))) (ea : at ≡ placeOf base stride k)
-    (ei : id ≡ be (part s at 4)) (so-far : lacks j (pages s base stride (pagesFor (k + 1))) id ≡ true) where
-  own-id : id ≡ idOf (row k (pages s base stride (pagesFor (k + 1))))
-  own-id = ei ∙ rw ea (place-id s base stride (pagesFor (k + 1)) k f (row-page (k + 1) k (omega arith))) ∙ row-id k _
+  pub ids-more : (n id : ℕ) → n < length ids → id ≡ idOf (row n mem) → IdsOf n mem ids → IdsOf (n + 1) mem (set ids n id)
+  ids-more n id l e f k h = by (ℕ-discrete k n)
+    where
+      by : Dec (k ≡ n) → getD (set ids n id) k 0 ≡ idOf (row k mem)
+      by (yes q) = rw q (getD-set-same ids n id 0 l ∙ e)
+      by (no q) = getD-set-other ids n k id 0 q ∙ f k (omega (arith, q))
 
-  answer : {r : Bool} → r ≡ lacks k (pages s base stride (pagesFor (k + 1))) id → r ≡ newId k (pages s base stride (pagesFor (k + 1)))
-  unfolding newId
-  answer e = rw (← own-id) e
+  ids-new : (n k : ℕ) → IdsOf n mem ids → k < n → isNew ids k ≡ newId k mem
+  unfolding isNew newId
+  ids-new n k f h =
+      below-same (apart ids k) (λ j. not (eqb (idOf (row j mem)) (idOf (row k mem)))) k (λ j g. rw (f j (omega arith), f k h))
+      ∙ lacks-below k mem (idOf (row k mem))
 
-  module _ (o x : ℕ) (h : j < k) (eo : o ≡ placeOf base stride j) (ex : x ≡ be (part s o 4)) where
-    there : x ≡ idOf (row j (pages s base stride (pagesFor (k + 1))))
-    there = ex ∙ rw eo (place-id s base stride (pagesFor (k + 1)) j f (row-page (k + 1) j (omega arith))) ∙ row-id j _
+-- ---- the ways through the walk
 
-    pub id-twice : x ≡ id → false ≡ newId k (pages s base stride (pagesFor (k + 1)))
-    id-twice e =
-        let mem = pages s base stride (pagesFor (k + 1)) in
-        answer (below-stop (otherId mem id) j k h (ap not (eq-eqb (idOf (row j mem)) id (sym there ∙ e))) ∙ lacks-below k mem id)
+module _ (mem : List ℕ) (rows : ℕ) {r : Bool} (er : r ≡ allBelow (goodRow mem) rows) where
+  pub rows-broken : not r ≡ true → false ≡ rowsKeep rows mem
+  rows-broken e = sym (rw (keep-below rows mem, was-no er e))
 
-    pub id-other : (x ≡ id → ⊥) → lacks (j + 1) (pages s base stride (pagesFor (k + 1))) id ≡ true
-    id-other e =
-        let mem = pages s base stride (pagesFor (k + 1)) in
-        sym (lacks-below (j + 1) mem id)
-        ∙ below-turn (otherId mem id) j (lacks-below j mem id ∙ so-far) (ap not (ne-eqb (idOf (row j mem)) id (λ g. e (there ∙ g))))
-
-  pub id-new : j ≤ k → k ≤ j → true ≡ newId k (pages s base stride (pagesFor (k + 1)))
-  id-new h g =
-      let mem = pages s base stride (pagesFor (k + 1)) in
-      answer (below-end (otherId mem id) j k h g (lacks-below j mem id ∙ so-far) ∙ lacks-below k mem id)
-
--- ---- the walk over the rows
-
-pub keep-none : (mem : List ℕ) → rowsKeep 0 mem ≡ true
-unfolding rowsKeep
-keep-none mem = refl
-
-keep-stop : (mem : List ℕ) (k rows : ℕ) → k < rows → goodRow mem k ≡ false → false ≡ rowsKeep rows mem
-keep-stop mem k rows h e = below-stop (goodRow mem) k rows h e ∙ keep-below rows mem
-
-pub keep-end : (mem : List ℕ) (k rows : ℕ) → k ≤ rows → rows ≤ k → rowsKeep k mem ≡ true → true ≡ rowsKeep rows mem
-keep-end mem k rows h g e = below-end (goodRow mem) k rows h g (keep-below k mem ∙ e) ∙ keep-below rows mem
+  pub rows-kept : not r ≡ false → (ids : List ℕ) → IdsOf rows mem ids → {q : Bool} → q ≡ allBelow (isNew ids) rows → q ≡ rowsKeep rows mem
+  rows-kept e ids f eq =
+      eq ∙ below-same (isNew ids) (λ k. newId k mem) rows (λ k h. ids-new ids mem rows k f h)
+      ∙ sym (rw (keep-below rows mem, was-yes er e))
 
 lent : (s : List ℕ) (at : ℕ) → take (at + rowSize - at) (drop at s) ≡ part s at rowSize
 unfolding part
 lent s at = let e : at + rowSize - at ≡ rowSize = omega arith in rw e
 
-module _ (s : List ℕ) (base stride rows k at : ℕ) (r : Bool) (f : PagesIn s base stride (pagesFor rows)) (h : k < rows) (ea : at ≡ placeOf base stride k)
-    (er : r ≡ rowKeeps (take (at + rowSize - at) (drop at s))) where
-  row-k : r ≡ rowKeeps (row k (pages s base stride (pagesFor rows)))
-  row-k = er ∙ rw (lent s at, ea, place-row s base stride (pagesFor rows) k f (row-page rows k h))
+module _ (s : List ℕ) (base stride rows k at : ℕ) (f : PagesIn s base stride (pagesFor rows)) (h : k < rows) (ea : at ≡ placeOf base stride k) where
+  pub id-there : {id : ℕ} → id ≡ be (part s at 4) → id ≡ idOf (row k (pages s base stride (pagesFor rows)))
+  id-there e = e ∙ rw ea (place-id s base stride (pagesFor rows) k f (row-page rows k h)) ∙ row-id k _
 
-  pub row-breaks : not r ≡ true → false ≡ rowsKeep rows (pages s base stride (pagesFor rows))
-  row-breaks e = keep-stop _ k rows h (rw (was-no row-k e))
+  module _ (r : Bool) (er : r ≡ rowKeeps (take (at + rowSize - at) (drop at s))) where
+    row-k : r ≡ goodRow (pages s base stride (pagesFor rows)) k
+    row-k = er ∙ rw (lent s at, ea, place-row s base stride (pagesFor rows) k f (row-page rows k h))
 
-  module _ (q : Bool) (eq : q ≡ newId k (pages s base stride (pagesFor (k + 1)))) (yes-r : not r ≡ false) where
-    new-k : q ≡ newId k (pages s base stride (pagesFor rows))
-    new-k =
-        let m : pagesFor (k + 1) ≤ pagesFor rows = fewer-pages (k + 1) rows (omega arith) in
-        eq ∙ new-equal k (pages s base stride (pagesFor (k + 1))) (pages s base stride (pagesFor rows))
-        (λ j g. place-row s base stride (pagesFor (k + 1)) j (λ i b. f i (omega arith)) (row-page (k + 1) j (omega arith))
-        ∙ sym (place-row s base stride (pagesFor rows) j f (row-page rows j (omega arith))))
+    pub row-breaks : not r ≡ true → false ≡ allBelow (goodRow (pages s base stride (pagesFor rows))) rows
+    row-breaks e = below-stop (goodRow _) k rows h (was-no row-k e)
 
-    pub row-twice : not q ≡ true → false ≡ rowsKeep rows (pages s base stride (pagesFor rows))
-    row-twice e = keep-stop _ k rows h (rw (was-yes row-k yes-r, was-no new-k e))
-
-    pub row-good : not q ≡ false → rowsKeep k (pages s base stride (pagesFor rows)) ≡ true
-        → rowsKeep (k + 1) (pages s base stride (pagesFor rows)) ≡ true
-    unfolding rowsKeep
-    row-good e g = rw (add-one, g, was-yes row-k yes-r, was-yes new-k e)
+    pub row-good : not r ≡ false → allBelow (goodRow (pages s base stride (pagesFor rows))) k ≡ true
+        → allBelow (goodRow (pages s base stride (pagesFor rows))) (k + 1) ≡ true
+    row-good e g = below-turn (goodRow _) k g (was-yes row-k e)

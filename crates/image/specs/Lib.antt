@@ -1,4 +1,5 @@
 pub mod Shape
+pub mod Ids
 pub mod Header
 pub mod Save
 pub mod Restore

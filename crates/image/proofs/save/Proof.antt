@@ -12,7 +12,7 @@ returns : tie.Need-returns
 returns c = search save-unfit
 
 keep-requires-2 : tie.Need-keep-requires-2
-keep-requires-2 c κs = let s = c .before .before .before .before .before in table-pages (s .args .table .now) (s .args .h .board .rows) (search save-limits)
+keep-requires-2 c κs = let s = c .before .before .before .before .before in let l : Fitting (s .args .h .board .rows) (s .args .table .now) = search save-limits in (table-pages (s .args .table .now) (s .args .h .board .rows) l, l .1)
 
 returns-2 : tie.Need-returns-2
 returns-2 c = search save-broken depth 14

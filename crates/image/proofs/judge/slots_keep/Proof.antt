@@ -1,7 +1,7 @@
 -- `image::judge::slots_keep` meets its contract.
 -- Assumes nothing.
 use native.Mathlib.Omega.{arith}
-use Rattle.image.proofs.Judged.{slots-other, slots-pages, slots-rows, slots-broken, slots-spare}
+use Rattle.image.proofs.Judged.{slots-other, slots-pages, slots-few, slots-rows, slots-broken, slots-spare}
 use borrow.Author.Needs.{needs}
 use Rattle.image.proofs.judge.slots_keep.Statement.{statement}
 use Rattle.image.proofs.judge.slots_keep.Tie as tie
@@ -10,7 +10,7 @@ returns : tie.Need-returns
 returns c = let s = c .before .before .before .args in slots-other (s .image .now) (s .rows) (s .count) (c .before .blocks-for .result) (c .before .blocks-for .ensures) (λ e. omega arith)
 
 keep-requires : tie.Need-keep-requires
-keep-requires c κs = search slots-pages
+keep-requires c κs = search (slots-pages, slots-few)
 
 returns-2 : tie.Need-returns-2
 returns-2 c = search slots-broken
