@@ -39,7 +39,7 @@ value-back text w (raw b) f h = refl
 value-back bytes w (num n) f h = absurd f
 value-back bytes w (raw b) f h = refl
 
-bytes-length : (r : Rule) (w : ℕ) (v : Value) → FitsIn r w v → length (bytesIn r w v) ≡ w
+pub bytes-length : (r : Rule) (w : ℕ) (v : Value) → FitsIn r w v → length (bytesIn r w v) ≡ w
 bytes-length (binary p) w (num n) f = digits-length 256 w n
 bytes-length (binary p) w (raw b) f = absurd f
 bytes-length decimal w (num n) f = before-length w n f

@@ -3,7 +3,7 @@
 use mathlib.Core.Path.{_≡_, refl, sym, ap, _∙_}
 use mathlib.Core.Bool.{Bool, true, false, _&&_, cond, not, and-true}
 use mathlib.Core.List.{List, [], _∷_}
-use Prim.Native.Nat.{ℕ, suc, _-_, _≤_, _<_}
+use Prim.Native.Nat.{ℕ, suc, _+_, _-_, _≤_, _<_}
 use native.Mathlib.Omega.{arith}
 use borrow.Author.Tests.{eq-eqb, ne-eqb, le-leb, lt-leb, not-true, not-false}
 use lib.Dec.{eqb, leb}
@@ -17,7 +17,7 @@ use Rattle.message.specs.Letters.{Content, unlisted, letters, letterIn, 
 use Rattle.message.specs.declared.EndOfReplay.{EndOfReplay}
 use Rattle.message.specs.Message.{refused, readFields, readAs, readOf}
 use Rattle.message.specs.Feed.{Letter, Sized, letterAmong, fieldsRead, letterRead, bytesRead}
-use Rattle.message.specs.Test.{tested, quoteLetters, quoteLength, pricesKeep}
+use Rattle.message.specs.Test.{tested, quoteLetters, quoteLength, pricesKeep, entryKeeps}
 use Rattle.message.specs.declared.Refusal.the-variants.{UnknownLetter, WrongLength, BadField}
 use Rattle.message.proofs.Layouts.{rowsIn, values-in-part}
 use Rattle.message.proofs.Feeds.{found}
@@ -192,14 +192,19 @@ rare-last c n1 n2 n3 q =
     no z = absurd (omega arith)
 
 -- the fields of each, where they lie
-pub entry-tested : (bs : List ℕ) {a b d e f g h k l n : Bool} {y m z t o w v : ℕ} → a ≡ isText (part bs 4 8) → y ≡ be (part bs 12 1) → b ≡ within 0 99 y
-    → m ≡ be (part bs 13 1) → d ≡ within 1 12 m → z ≡ be (part bs 14 1) → e ≡ within 1 31 z → f ≡ priceInRange (be (part bs 15 4))
-    → t ≡ be (part bs 19 1) → g ≡ listed optionTypes t → h ≡ isText (part bs 20 13) → o ≡ be (part bs 33 1) → k ≡ listed closings o
-    → w ≡ be (part bs 34 1) → l ≡ listed tradables w → v ≡ be (part bs 35 1) → n ≡ listed variations v
-    → a && (b && (d && (e && (f && (g && (h && (k && (l && n)))))))) ≡ keepsAll entryRows (values entryRows bs)
-unfolding keepsAll values
-entry-tested bs p1 i1 p2 i2 p3 i3 p4 p5 i4 p6 p7 i5 p8 i6 p9 i7 p10 =
-    simp and-true (rw (p1, p2, i1, p3, i2, p4, i3, p5, p6, i4, p7, p8, i5, p9, i6, p10, i7))
+pub entry-tested : (bs : List ℕ) (symbol date strike kind underlying marks : ℕ) {a b d e f g h k l n : Bool} {y m z t o w v : ℕ} → a ≡ isText (part bs symbol 8)
+    → y ≡ be (part bs date 1) → b ≡ within 0 99 y → m ≡ be (part bs (date + 1) 1) → d ≡ within 1 12 m → z ≡ be (part bs (date + 2) 1) → e ≡ within 1 31 z
+    → f ≡ priceInRange (be (part bs strike 4)) → t ≡ be (part bs kind 1) → g ≡ listed optionTypes t → h ≡ isText (part bs underlying 13)
+    → o ≡ be (part bs marks 1) → k ≡ listed closings o → w ≡ be (part bs (marks + 1) 1) → l ≡ listed tradables w → v ≡ be (part bs (marks + 2) 1)
+    → n ≡ listed variations v → a && (b && (d && (e && (f && (g && (h && (k && (l && n)))))))) ≡ entryKeeps bs symbol date strike kind underlying marks
+unfolding entryKeeps
+entry-tested bs symbol date strike kind underlying marks p1 i1 p2 i2 p3 i3 p4 p5 i4 p6 p7 i5 p8 i6 p9 i7 p10 =
+    rw (p1, p2, i1, p3, i2, p4, i3, p5, p6, i4, p7, p8, i5, p9, i6, p10, i7)
+
+-- the places of an entry's own bytes
+pub entry-rules : (bs : List ℕ) {r : Bool} → r ≡ entryKeeps bs 4 12 15 19 20 33 → r ≡ keepsAll entryRows (values entryRows bs)
+unfolding entryKeeps keepsAll values
+entry-rules bs p = p ∙ simp and-true
 
 pub event-tested : (c : ℕ) (bs : List ℕ) {a b : Bool} {v : ℕ} → c ≡ 83 → a ≡ timeInRange (be (part bs 3 8)) → v ≡ be (part bs 11 1) → b ≡ listed eventCodes v
     → a && b ≡ keepsAll (letterIn letters c .rows) (values (letterIn letters c .rows) bs)

@@ -1,12 +1,13 @@
 -- Bytes tested where they lie: what a test says of a reading, and what it asks of a quote.
 -- Assumes nothing.
-use Prim.Native.Nat.{ℕ}
+use Prim.Native.Nat.{ℕ, _+_}
 use mathlib.Core.Bool.{Bool, true, _&&_, cond}
 use mathlib.Core.List.{List, [], _∷_}
 use lib.Dec.{eqb, leb}
 use Rattle.field.specs.Bytes.{part, be}
 use Rattle.field.specs.Limits.{priceInRange}
-use Rattle.message.specs.Letters.{Content, letterIn, shortQuoteLetter, longQuoteLetter, shortSideLetter, longSideLetter}
+use Rattle.field.specs.Text.{within, isText}
+use Rattle.message.specs.Letters.{Content, letterIn, listed, optionTypes, closings, tradables, variations, shortQuoteLetter, longQuoteLetter, shortSideLetter, longSideLetter}
 use Rattle.message.specs.Feed.{Letter}
 use Rattle.message.specs.Message.{refusalNumber}
 use Rattle.message.specs.declared.Side.the-variants.{Bid, Ask}
@@ -34,3 +35,17 @@ quoteLength c = letterIn quoteLetters c .size
 unfoldable pub pricesKeep : ℕ → List ℕ → Bool
 pricesKeep c bs =
     cond (leb 97 c) true (priceInRange (be (part bs 20 4)) && cond (eqb c 81) (priceInRange (be (part bs 40 4))) true)
+
+-- the rules of an instrument's fields, at these places
+unfoldable pub entryKeeps : List ℕ → ℕ → ℕ → ℕ → ℕ → ℕ → ℕ → Bool
+entryKeeps bs symbol date strike kind underlying marks =
+    isText (part bs symbol 8)
+    && (within 0 99 (be (part bs date 1))
+    && (within 1 12 (be (part bs (date + 1) 1))
+    && (within 1 31 (be (part bs (date + 2) 1))
+    && (priceInRange (be (part bs strike 4))
+    && (listed optionTypes (be (part bs kind 1))
+    && (isText (part bs underlying 13)
+    && (listed closings (be (part bs marks 1))
+    && (listed tradables (be (part bs (marks + 1) 1))
+    && listed variations (be (part bs (marks + 2) 1))))))))))

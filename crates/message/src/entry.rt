@@ -6,12 +6,13 @@ use field::limits;
 use field::text;
 ghost use mathlib.Core.Path.{_≡_};
 ghost use mathlib.Core.List.{_++_};
-ghost use Prim.Native.Nat.{_≤_};
+ghost use Prim.Native.Nat.{_+_, _≤_};
 ghost use lib.ListN.{length};
 ghost use Rattle.field.specs.Bytes.{overlay, bytesBe};
 ghost use Rattle.field.specs.Text.{within, isText};
 ghost use Rattle.message.specs.Layout.{values, keepsAll, bytesFor};
 ghost use Rattle.message.specs.Letters.{entryRows, entrySize, instrumentOf, textsOf, instrumentRows, instrumentFields};
+ghost use Rattle.message.specs.Test.{entryKeeps};
 
 pub fn instrument(entry: &[u8]) -> Instrument
     requires { ⌜ entrySize ≤ length (now entry) ⌝ }
@@ -149,19 +150,36 @@ pub fn put(out: &mut [u8], m: Instrument, t: Texts)
     market(out, m, t);
 }
 
+// The rules of an instrument's fields, whose places in some bytes are these; a date has three bytes, and so have the marks.
+pub fn keep_at(
+    s: &[u8],
+    symbol: usize,
+    date: usize,
+    strike: usize,
+    kind: usize,
+    underlying: usize,
+    marks: usize,
+) -> bool
+    requires { ⌜ (symbol + 8 ≤ length (now s)) × (date + 3 ≤ length (now s)) × (strike + 4 ≤ length (now s)) × (kind + 1 ≤ length (now s))
+        × (underlying + 13 ≤ length (now s)) × (marks + 3 ≤ length (now s)) ⌝ }
+    ensures { λ r. ⌜ r ≡ entryKeeps (now (s .entry)) symbol date strike kind underlying marks ⌝ }
+{
+    text::is_text(s, symbol, 8)
+        & (is_within(0, 99, field::read1(s, date))
+            & (is_within(1, 12, field::read1(s, date + 1))
+                & (is_within(1, 31, field::read1(s, date + 2))
+                    & (limits::price_keeps(s, strike)
+                        & (codes::is_type(field::read1(s, kind))
+                            & (text::is_text(s, underlying, 13)
+                                & (codes::is_closing(field::read1(s, marks))
+                                    & (codes::is_tradable(field::read1(s, marks + 1))
+                                        & codes::is_variation(field::read1(s, marks + 2))))))))))
+}
+
 // The rules of an instrument, tested where its bytes lie.
 pub fn keep_bytes(entry: &[u8]) -> bool
     requires { ⌜ 52 ≤ length (now entry) ⌝ }
     ensures { λ r. ⌜ r ≡ keepsAll entryRows (values entryRows (now (entry .entry))) ⌝ }
 {
-    text::is_text(entry, 4, 8)
-        & (is_within(0, 99, field::read1(entry, 12))
-            & (is_within(1, 12, field::read1(entry, 13))
-                & (is_within(1, 31, field::read1(entry, 14))
-                    & (limits::price_keeps(entry, 15)
-                        & (codes::is_type(field::read1(entry, 19))
-                            & (text::is_text(entry, 20, 13)
-                                & (codes::is_closing(field::read1(entry, 33))
-                                    & (codes::is_tradable(field::read1(entry, 34))
-                                        & codes::is_variation(field::read1(entry, 35))))))))))
+    keep_at(entry, 4, 12, 15, 19, 20, 33)
 }

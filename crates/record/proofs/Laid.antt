@@ -138,7 +138,7 @@ values-laid (r ∷ rs) (v ∷ vs) xs n p f l s a =
 
 -- ---- put back
 
-own-bytes : (r : Rule) (w : ℕ) (b : List ℕ) → PlainRule r → length b ≡ w → Bytes b → bytesIn r w (valueIn r b) ≡ b
+pub own-bytes : (r : Rule) (w : ℕ) (b : List ℕ) → PlainRule r → length b ≡ w → Bytes b → bytesIn r w (valueIn r b) ≡ b
 own-bytes (binary p) w b q e s = rw e at (digits-value 256 (lit< tt) b s)
 own-bytes decimal w b q e s = absurd q
 own-bytes text w b q e s = refl
@@ -157,7 +157,7 @@ inside-is : (n : ℕ) (r : Row) (rs : List Row) → inside n (r ∷ rs) ≡ true
 unfolding inside
 inside-is n r rs f = f
 
-neither : (a b : Bool) → a || b ≡ false → (a ≡ false) × (b ≡ false)
+pub neither : (a b : Bool) → a || b ≡ false → (a ≡ false) × (b ≡ false)
 neither true b e = absurd (let z : _≡_ {A = ℕ} 0 1 = cc in omega arith)
 neither false b e = (refl, e)
 

@@ -5,4 +5,6 @@ pub mod Ways
 pub mod Typed
 pub mod Rounds
 pub mod Joined
+pub mod Gaps
+pub mod Sent
 mod Examples

@@ -1,13 +1,16 @@
 -- Fields moved from the places of a message's layout to those of a record are the fields laid there.
 -- Assumes nothing.
 use mathlib.Core.Path.{_≡_, refl, sym, ap, _∙_}
-use mathlib.Core.Bool.{Bool, true, false}
+use mathlib.Core.Bool.{Bool, true, false, _&&_}
 use mathlib.Core.List.{List, [], _∷_, _++_}
 use Prim.Native.Nat.{ℕ, _+_, _≤_}
 use native.Mathlib.Omega.{arith}
-use lib.Dec.{lit<}
+use borrow.Author.Tests.{leb-true, eqb-true}
+use lib.Dec.{leb, eqb, lit<}
 use lib.ListN.{length, take, drop, getD}
 use Rattle.field.specs.Bytes.{part, overlay, be, bytesBe, Bytes}
+use Rattle.field.specs.Decimal.{charsThenSpaces}
+use Rattle.field.proofs.Bools.{both-left, both-right}
 use Rattle.field.proofs.Parts.{part-length, overlay-length}
 use Rattle.field.proofs.Numbers.{digits-value, part-bytes, Lent, lent-bytes}
 use Rattle.field.proofs.Writes.{carried-run}
@@ -16,7 +19,7 @@ use Rattle.message.specs.Letters.{letters, letterIn, anything, endOfReplayRows,
 use Rattle.message.specs.declared.Side.{Side}
 use Rattle.message.proofs.Layouts.{plain}
 use Rattle.record.specs.Places.{recordSize, letterPlace, codePlace, stampPlaces, instrumentPlaces, directoryPlaces, endOfReplayPlaces, recordLetters, headPlaces, systemEventPlaces, sideAt, shortPlaces, longPlaces, shortQuotePlaces, longQuotePlaces, shortSidePlaces, longSidePlaces}
-use Rattle.record.specs.Record.{laid, laidFrom}
+use Rattle.record.specs.Record.{laid, laidFrom, laidBack}
 use Rattle.record.proofs.Puts.{long-laid, head-length, numbers-length}
 
 clash : {A : Type 0} → false ≡ true → A
@@ -62,6 +65,48 @@ laid-moved (r ∷ rs) (p ∷ ps) bs xs zs t s m =
     = again (r .rule) (p .rule) (p .width) b (t .2) (t .3) (part-length bs (r .at) (r .width) (t .0) ∙ sym (t .1)) (part-bytes bs (r .at) (r .width) s) in
     laid-moved rs ps bs (m .0) zs (t .4) s (m .2)
     ∙ ap (laid ps (values rs bs)) (m .1 ∙ ap (overlay xs (p .at)) (sym e))
+
+-- the rule of pairs as one computed test
+unfoldable pub paired : ℕ → List Row → List Row → Bool
+paired n [] ps = true
+paired n (r ∷ rs) [] = true
+paired n (r ∷ rs) (p ∷ ps) = leb (r .at + r .width) n && (eqb (p .width) (r .width) && (plain (r .rule) && (plain (p .rule) && paired n rs ps)))
+
+pairs-are : (n m : ℕ) (rs ps : List Row) → n ≤ m → paired n rs ps ≡ true → Pairs m rs ps
+unfolding paired
+pairs-are n m [] ps l t = tt
+pairs-are n m (r ∷ rs) [] l t = tt
+pairs-are n m (r ∷ rs) (p ∷ ps) l t =
+    let room : Bool = leb (r .at + r .width) n in
+    let wide : Bool = eqb (p .width) (r .width) in
+    let rest : Bool = paired n rs ps in
+    let t1 = both-right room (wide && (plain (r .rule) && (plain (p .rule) && rest))) t in
+    let t2 = both-right wide (plain (r .rule) && (plain (p .rule) && rest)) t1 in
+    let t3 = both-right (plain (r .rule)) (plain (p .rule) && rest) t2 in (
+      omega (arith, leb-true (r .at + r .width) n (both-left room (wide && (plain (r .rule) && (plain (p .rule) && rest))) t)),
+      eqb-true (p .width) (r .width) (both-left wide (plain (r .rule) && (plain (p .rule) && rest)) t1),
+      both-left (plain (r .rule)) (plain (p .rule) && rest) t2,
+      both-left (plain (p .rule)) rest t3,
+      pairs-are n m rs ps l (both-right (plain (p .rule)) rest t3),
+    )
+
+pub moved : (n : ℕ) (rs ps : List Row) (bs xs : List ℕ) {zs : List ℕ} → paired n rs ps ≡ true → n ≤ length bs → Lent bs → Moves bs rs ps xs zs
+    → zs ≡ laid ps (values rs bs) xs
+moved n rs ps bs xs {zs} t h k m = laid-moved rs ps bs xs zs (pairs-are n (length bs) rs ps h t) (lent-bytes bs k) m
+
+-- moves after moves
+laid-join : (rs ps rs′ ps′ : List Row) (bs xs : List ℕ) → length rs ≡ length ps
+    → laid (ps ++ ps′) (values (rs ++ rs′) bs) xs ≡ laid ps′ (values rs′ bs) (laid ps (values rs bs) xs)
+unfolding laid values
+laid-join [] [] rs′ ps′ bs xs e = refl
+laid-join [] (p ∷ ps) rs′ ps′ bs xs e = absurd (omega arith)
+laid-join (r ∷ rs) [] rs′ ps′ bs xs e = absurd (omega arith)
+laid-join (r ∷ rs) (p ∷ ps) rs′ ps′ bs xs e =
+    laid-join rs ps rs′ ps′ bs (overlay xs (p .at) (bytesIn (p .rule) (p .width) (valueIn (r .rule) (part bs (r .at) (r .width))))) (omega arith)
+
+pub after : (rs ps rs′ ps′ : List Row) (bs xs : List ℕ) {us zs : List ℕ} → length rs ≡ length ps → us ≡ laid ps (values rs bs) xs → zs ≡ laid ps′ (values rs′ bs) us
+    → zs ≡ laid (ps ++ ps′) (values (rs ++ rs′) bs) xs
+after rs ps rs′ ps′ bs xs l e f = f ∙ ap (laid ps′ (values rs′ bs)) e ∙ sym (laid-join rs ps rs′ ps′ bs xs l)
 
 -- ---- each run of moves
 
@@ -178,3 +223,25 @@ pub lay-arm : (k : ℕ) (bs xs : List ℕ) {zs : List ℕ} → getD bs 0 0 ≡ k
     → zs ≡ laid (letterPlace ∷ letterIn recordLetters k .rows) (values (letterPlace ∷ letterIn letters k .rows) bs) xs → zs ≡ laidFrom bs xs
 unfolding laidFrom
 lay-arm k bs xs e p = rw e p
+
+-- ---- and back, from a record's places to a message's
+
+pub long-back : (bs xs : List ℕ) (at to : ℕ) {zs : List ℕ} → to + 20 ≤ length xs
+    → zs ≡ overlay xs to (bytesFor (longNumbersRows to) (longNumbersFields (longNumbersOf (values (longNumbersRows at) bs))))
+    → zs ≡ laid (longNumbersRows to) (values (longPlaces at) bs) xs
+unfolding laid values
+long-back bs xs at to h e = e ∙ long-laid xs to (longNumbersOf (values (longNumbersRows at) bs)) h
+
+pub end-back : (bs xs : List ℕ) {v : ℕ} {us zs : List ℕ} → Lent bs → length bs ≡ recordSize → us ≡ overlay xs 0 (part bs 0 1) → v ≡ be (part bs 16 8)
+    → zs ≡ overlay us 1 (charsThenSpaces 20 v) → zs ≡ laid (letterPlace ∷ endOfReplayRows) (values (letterPlace ∷ endOfReplayPlaces) bs) xs
+unfolding laid values
+end-back bs xs k h e i f =
+    f ∙ rw (i, e, again (binary anything) (binary anything) 1 (part bs 0 1) refl refl (part-length bs 0 1 (omega arith)) (part-bytes bs 0 1 (lent-bytes bs k)))
+
+pub back-arm : (k c : ℕ) (bs xs : List ℕ) {zs : List ℕ} → c ≡ k
+    → zs ≡ laid (letterPlace ∷ letterIn letters k .rows) (values (letterPlace ∷ letterIn recordLetters k .rows) bs) xs → zs ≡ laidBack c bs xs
+unfolding laidBack
+back-arm k c bs xs e p = rw e p
+
+pub back-room : (k c n : ℕ) → c ≡ k → letterIn letters c .size ≤ n → letterIn letters k .size ≤ n
+back-room k c n e h = rw e at h

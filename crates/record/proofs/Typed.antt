@@ -57,14 +57,14 @@ typed (message.EndOfReplay m) t f = (twenty (m .number) (f .0), tt)
 -- ---- a message that a record holds
 
 -- a letter makes a message whose fields, at their places in a record, are those that it was made of
-record Makes (l : Letter Content) (bs : List ℕ) : Type 0 where
-  own : placesFor (l .makes (values (l .rows) bs) .0) ≡ l .rows
-  code : letterFor (l .makes (values (l .rows) bs) .0) .code ≡ l .code
-  fields : fieldsOf (l .makes (values (l .rows) bs) .0) (l .makes (values (l .rows) bs) .1) ≡ values (l .rows) bs
-  within : inside recordSize (l .rows) ≡ true
-  kept : keepsAll (l .rows) (values (l .rows) bs) ≡ true
+pub record Makes (l : Letter Content) (bs : List ℕ) : Type 0 where
+  pub own : placesFor (l .makes (values (l .rows) bs) .0) ≡ l .rows
+  pub code : letterFor (l .makes (values (l .rows) bs) .0) .code ≡ l .code
+  pub fields : fieldsOf (l .makes (values (l .rows) bs) .0) (l .makes (values (l .rows) bs) .1) ≡ values (l .rows) bs
+  pub within : inside recordSize (l .rows) ≡ true
+  pub kept : keepsAll (l .rows) (values (l .rows) bs) ≡ true
 
-record-makes : (c : ℕ) (bs : List ℕ) → (letterIn recordLetters c .size ≡ 0 → ⊥) → Makes (letterIn recordLetters c) bs
+pub record-makes : (c : ℕ) (bs : List ℕ) → (letterIn recordLetters c .size ≡ 0 → ⊥) → Makes (letterIn recordLetters c) bs
 unfolding recordLetters values inside keepsAll
 record-makes c bs =
     found unlisted (λ (l : Letter Content). (l .size ≡ 0 → ⊥) → Makes l bs) c recordLetters (λ h. absurd (h refl)) (search tt depth 60)
@@ -105,7 +105,7 @@ is-said bs m t = by (eqb (l .size) 0) refl
           kept = rw places (w .kept);
         }
 
-said-roomy : (bs : List ℕ) → Bytes bs → recordSize ≤ length bs → (m : Message) (t : Texts) → saidOf bs ≡ held m t → Roomy m t
+pub said-roomy : (bs : List ℕ) → Bytes bs → recordSize ≤ length bs → (m : Message) (t : Texts) → saidOf bs ≡ held m t → Roomy m t
 said-roomy bs s h m t e =
     let w = is-said bs m t e in
     rw (w .fields) (values-fit (placesFor m) bs recordSize s h (w .within) (w .kept))

@@ -150,55 +150,6 @@ module _ (bs memory : List ℕ) (r : ℕ) (h : length memory ≡ recordSize) (is
 
 -- ---- written from a record
 
--- no letter is longer than a directory
-size-most : (m : Message) → letterFor m .size ≤ directoryLetter .size
-size-most (message.SystemEvent m) = omega arith
-size-most (message.Directory m) = omega arith
-size-most (message.TradingAction m) = omega arith
-size-most (message.ShortQuote m) = omega arith
-size-most (message.LongQuote m) = omega arith
-size-most (message.ShortSide m) = omega arith
-size-most (message.LongSide m) = omega arith
-size-most (message.EndOfReplay m) = omega arith
-
--- a count of bytes written is the letter's length
-pub count-is : (m : Message) (t : Texts) (out : List ℕ) (n : ℕ) → writeOf m t out .answer ≡ Whole n → n ≡ letterFor m .size
-unfolding writeOf
-count-is m t out n = by (keeps m t) (leb (letterFor m .size) (length out))
-  where
-    by : (k l : Bool)
-        → cond k (cond l (outcome (Whole (letterFor m .size)) (overlay out 0 (bytesOf m t))) (outcome (Unwritten ShortOutput) out)) (outcome (Unwritten BrokenRecord) out) .answer
-        ≡ Whole n → n ≡ letterFor m .size
-    by true true e = cc
-    by true false e = cc
-    by false l e = cc
-
-pub count-most : (m : Message) (t : Texts) (out : List ℕ) (n : ℕ) {w : Written} {zs : List ℕ} → outcome w zs ≡ writeOf m t out → w ≡ Whole n → n ≤ directoryLetter .size
-count-most m t out n p e =
-    omega (arith, size-most m, count-is m t out n (sym (ap (λ (o : Outcome). o .answer) p) ∙ e))
-
 pub write-long : (bs out : List ℕ) → (length bs ≡ recordSize → ⊥) → answered 20 out ≡ writeAnswer bs out
 unfolding writeAnswer
 write-long bs out h = rw (ne-eqb (length bs) recordSize h)
-
-module _ (bs out : List ℕ) (x : Held) (h : length bs ≡ recordSize) (is : x ≡ recordOf bs) where
-  as-taken : writeFrom (x .taken) (x .texts) out ≡ writeAnswer bs out
-  unfolding writeAnswer
-  as-taken = rw (eq-eqb (length bs) recordSize h, is)
-
-  pub write-none : x .taken ≡ NoRecord → answered 26 out ≡ writeAnswer bs out
-  unfolding writeFrom
-  write-none e = ap (λ (a : Taken). writeFrom a (x .texts) out) (sym e) ∙ as-taken
-
-  module _ (m : Message) {w : Written} {zs : List ℕ} (e : x .taken ≡ Is m) (p : outcome w zs ≡ writeOf m (x .texts) out) where
-    as-written : writtenAs w zs ≡ writeAnswer bs out
-    unfolding writeFrom
-    as-written = ap (λ (o : Outcome). writtenAs (o .answer) (o .memory)) p ∙ ap (λ (a : Taken). writeFrom a (x .texts) out) (sym e) ∙ as-taken
-
-    pub write-whole : (n : ℕ) → w ≡ Whole n → answered (n * 256) zs ≡ writeAnswer bs out
-    unfolding writtenAs
-    write-whole n q = ap (λ (a : Written). writtenAs a zs) (sym q) ∙ as-written
-
-    pub write-refused : (r : WriteRefusal) {n : ℕ} → w ≡ Unwritten r → n ≡ writeRefusalNumber r → answered n zs ≡ writeAnswer bs out
-    unfolding writtenAs
-    write-refused r q s = ap (λ (k : ℕ). answered k zs) s ∙ ap (λ (a : Written). writtenAs a zs) (sym q) ∙ as-written

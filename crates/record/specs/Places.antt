@@ -45,6 +45,10 @@ longPlaces at = number at 4 ∷ number (at + 4) 4 ∷ number (at + 8) 4 ∷ numb
 abbrev pub shortPlaces : ℕ → List Row
 shortPlaces at = number (at + 2) 2 ∷ number (at + 6) 2 ∷ number (at + 10) 2 ∷ number (at + 14) 2 ∷ number (at + 18) 2 ∷ []
 
+-- and the two high bytes of each are 0
+abbrev pub highPlaces : ℕ → List Row
+highPlaces at = number at 2 ∷ number (at + 4) 2 ∷ number (at + 8) 2 ∷ number (at + 12) 2 ∷ number (at + 16) 2 ∷ []
+
 -- year, month, day
 abbrev pub datePlaces : List Row
 datePlaces = number 68 1 ∷ number 69 1 ∷ number 70 1 ∷ []

@@ -1,11 +1,12 @@
 -- Records of messages: the record of a message, the message of a record, and messages read to records and written from them.
 -- Assumes nothing.
 use Prim.Native.Nat.{ℕ, _*_}
-use mathlib.Core.Bool.{cond}
+use mathlib.Core.Bool.{Bool, true, _&&_, cond}
 use mathlib.Core.List.{List, [], _∷_, _++_}
 use lib.Dec.{eqb}
 use lib.ListN.{length, getD, replicate}
-use Rattle.field.specs.Bytes.{overlay, same}
+use Rattle.field.specs.Bytes.{part, overlay, same}
+use Rattle.field.specs.Text.{every, isZero}
 use Rattle.message.specs.Layout.{Value, num, raw, Row, bytesIn, values, Fit}
 use Rattle.message.specs.Feed.{Letter}
 use Rattle.message.specs.Letters.{Content, letters, letterIn, letterFor, fieldsOf, noTexts}
@@ -119,3 +120,20 @@ Roomy m t = Fit (placesFor m) (fieldsOf m t)
 unfoldable pub laidFrom : List ℕ → List ℕ → List ℕ
 laidFrom bs xs =
     laid (letterPlace ∷ letterIn recordLetters (getD bs 0 0) .rows) (values (letterPlace ∷ letterIn letters (getD bs 0 0) .rows) bs) xs
+
+-- ---- STRAIGHT FROM A RECORD
+
+-- the letter and the fields of a record, laid over other bytes as the message of letter c has them
+unfoldable pub laidBack : ℕ → List ℕ → List ℕ → List ℕ
+laidBack c bs xs = laid (letterPlace ∷ letterIn letters c .rows) (values (letterPlace ∷ letterIn recordLetters c .rows) bs) xs
+
+-- bytes are what their own fields, by letter c, lay over zeros
+unfoldable pub isOwn : ℕ → List ℕ → Bool
+isOwn c bs =
+    same
+    (laid (letterPlace ∷ letterIn recordLetters c .rows) (values (letterPlace ∷ letterIn recordLetters c .rows) bs) (replicate recordSize 0)) bs
+
+-- all of these places are 0
+unfoldable pub clear : List Row → List ℕ → Bool
+clear [] bs = true
+clear (g ∷ gs) bs = every isZero (part bs (g .at) (g .width)) && clear gs bs

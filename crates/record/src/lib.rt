@@ -1,7 +1,6 @@
 // The record of a message in bytes: 112 of them, the same places for all letters, and 0 where a letter has no field.
 use message::Message;
 use message::Texts;
-use message::Written;
 ghost use mathlib.Core.Path.{_≡_};
 ghost use lib.ListN.{length};
 ghost use Rattle.field.specs.Bytes.{same};
@@ -10,11 +9,15 @@ ghost use Rattle.message.specs.Test.{tested};
 ghost use Rattle.record.specs.Places.{recordSize};
 ghost use Rattle.record.specs.Record.{recordBytes, held, noRecord, recordOf, answered, readTo, readAnswer, writeAnswer};
 
+mod back;
 mod lay;
 mod say;
 mod wire;
 
 pub const RECORD_SIZE: usize = 112;
+
+// The answer for bytes that are no record, or break the rules of its fields.
+const NO_RECORD: u32 = 26;
 
 pub enum Taken {
     Is(Message),
@@ -108,14 +111,20 @@ pub fn write(record: &[u8], out: &mut [u8]) -> u32
     if record.len() != RECORD_SIZE {
         return 20;
     }
-    let held = take(record);
-    let t = held.texts;
-    let taken = held.taken;
-    match taken {
-        Taken::Is(m) => match message::write(m, t, out) {
-            Written::Whole(n) => n as u32 * 256,
-            Written::Unwritten(r) => message::write_refusal_number(r) as u32,
-        },
-        Taken::NoRecord => 26,
+    let letter = record[0];
+    let size = message::lengths::length_of(letter);
+    if size == 0 {
+        return NO_RECORD;
     }
+    if !back::keep(letter, record) {
+        return NO_RECORD;
+    }
+    if !back::is_own(letter, record) {
+        return NO_RECORD;
+    }
+    if out.len() < size {
+        return 25;
+    }
+    back::lay(letter, record, out);
+    size as u32 * 256
 }
