@@ -7,7 +7,7 @@ use Prim.Native.Nat.{ℕ, zero, suc, _+_, _-_, _*_, _/_, _%_, _^_, _≤_, _<_}
 use native.Mathlib.Nat.{not-suc-le-zero, pow-suc, pow-succ', div-lt-iff-lt-mul, le-div-iff-mul-le, div-div-eq-div-mul, pow-le-pow-right, mod-lt, lt-of-lt-of-le, mul-one, mul-le-mul-left, mod-eq-of-lt, mul-le-mul-right, add-zero, sub-zero, div-one}
 use native.Mathlib.Decide.{decLt}
 use native.Mathlib.Omega.{arith}
-use borrow.Author.Tests.{le-leb, leb-true, lt-ltb, le-ltb, eqb-false, ne-eqb, not-true}
+use borrow.Author.Tests.{le-leb, leb-true, lt-ltb, le-ltb, eqb-true, eqb-false, ne-eqb, not-true}
 use lib.Dec.{leb, ltb, eqb, lit<}
 use lib.ListN.{length, take, drop, getD, set, replicate, length-append, length-map, length-replicate, take-append-drop, length-drop}
 use lib.Seq.{take-append-seam, drop-append-seam, length-take-le}
@@ -16,11 +16,11 @@ use Rattle.field.specs.declared.decimal.Number.the-variants.{Is, Bad}
 use Rattle.field.specs.Bytes.{part, overlay, value, digits, Digits}
 use Rattle.field.specs.Limits.{highestNumber}
 use Rattle.field.specs.Text.{every, leading, isSpace, isDigit}
-use Rattle.field.specs.Decimal.{decimal, beginsWithNonZero, numberOf, numberAfterSpaces, numberBeforeSpaces, digitChars, oneOrMore, digitCountIn, digitCount, chars, charsThenSpaces, spacesThenChars}
-use Rattle.field.proofs.Parts.{part-length, part-at, part-none, part-cons, part-more, part-split, part-take, part-drop, overlay-none, overlay-before, overlay-next}
+use Rattle.field.specs.Decimal.{Leads, decimal, beginsWithNonZero, numberOf, numberAfterSpaces, numberBeforeSpaces, digitChars, oneOrMore, digitCountIn, digitCount, chars, charsThenSpaces, spacesThenChars}
+use Rattle.field.proofs.Parts.{part-length, part-at, part-none, part-cons, part-more, part-split, part-take, part-drop, rest-cons, rest-none, overlay-none, overlay-before, overlay-next}
 use Rattle.field.proofs.Numbers.{pos, value-append, value-below, value-digits, digits-value, digits-length}
 use Rattle.field.proofs.Bools.{both-left, both-right}
-use Rattle.field.proofs.Runs.{every-at, every-append, every-leading, every-replicate, leading-le, leading-append, leading-replicate, spaces-are, within-yes, within-low, within-high}
+use Rattle.field.proofs.Runs.{every-at, every-append, every-leading, every-replicate, leading-le, leading-every, leading-append, leading-stop, leading-end, leading-replicate, spaces-are, within-yes, within-low, within-high}
 
 -- ---- digits in characters
 
@@ -352,9 +352,6 @@ module _ (xs : List ℕ) (at n : ℕ) (fits : at + n ≤ length xs) where
     pub number-low : getD xs (at + k) 0 < 48 → Bad ≡ numberOf (part xs at n)
     number-low l = no-digit (within-low 48 57 (getD xs (at + k) 0) l)
 
-    pub number-high : 57 < getD xs (at + k) 0 → Bad ≡ numberOf (part xs at n)
-    number-high l = no-digit (within-high 48 57 (getD xs (at + k) 0) l)
-
     pub digits-more : every isDigit (part xs at k) ≡ true → 48 ≤ getD xs (at + k) 0 → getD xs (at + k) 0 ≤ 57
         → every isDigit (part xs at (k + 1)) ≡ true
     unfolding every
@@ -400,6 +397,115 @@ module _ (xs : List ℕ) (at n k : ℕ) where
     pub no-before-part : b ≡ false → Bad ≡ numberBeforeSpaces (part xs at n)
     unfolding numberBeforeSpaces
     no-before-part f = rw (spaces-follow, f)
+
+-- ---- digits, and then spaces, in one run
+
+module _ (xs : List ℕ) (at n k : ℕ) (fits : at + n ≤ length xs) where
+  digits-lead : k ≤ n → every isDigit (part xs at k) ≡ true → leading isDigit (part xs at n) ≡ k + leading isDigit (part xs (at + k) (n - k))
+  digits-lead h d =
+      let j : k + (n - k) ≡ n = omega arith in
+      let e : part xs at n ≡ part xs at k ++ part xs (at + k) (n - k) = rw j at (part-split xs at k (n - k)) in
+      ap (leading isDigit) e ∙ leading-append isDigit (part xs at k) (part xs (at + k) (n - k)) d
+      ∙ ap (λ (m : ℕ). m + leading isDigit (part xs (at + k) (n - k))) (part-length xs at k (omega arith))
+
+  -- no digit follows
+  module _ (h : k ≤ n) (v : ℕ) (most : v ≤ highestNumber) (is : v ≡ decimal (part xs at k)) (d : every isDigit (part xs at k) ≡ true) where
+    leads : leading isDigit (part xs (at + k) (n - k)) ≡ 0 → Leads (part xs at n) k v
+    leads z = record { count = omega (arith, digits-lead h d, z); most = most; is = is ∙ ap decimal (sym (part-take xs at n k h)) }
+
+    pub leads-low : k < n → getD xs (at + k) 0 < 48 → Leads (part xs at n) k v
+    leads-low l c = leads (leading-stop isDigit xs at n k l fits (within-low 48 57 (getD xs (at + k) 0) c))
+
+    pub leads-all : n ≤ k → Leads (part xs at n) k v
+    leads-all l = leads (leading-end isDigit xs at n k l)
+
+  -- a character above the digits is no space
+  pub before-high : k < n → every isDigit (part xs at k) ≡ true → 57 < getD xs (at + k) 0 → Bad ≡ numberBeforeSpaces (part xs at n)
+  unfolding every
+  before-high l d c =
+      let z : leading isDigit (part xs (at + k) (n - k)) ≡ 0 = leading-stop isDigit xs at n k l fits (within-high 48 57 (getD xs (at + k) 0) c) in
+      no-before-part xs at n k (omega (arith, digits-lead (omega arith) d, z)) (omega arith)
+      {b = false} (rw (rest-cons xs at n k l fits, within-high 32 32 (getD xs (at + k) 0) (omega arith))) refl
+
+  -- whatever follows digits that write no number
+  before-bad : k ≡ leading isDigit (part xs at n) → k ≤ n → Bad ≡ numberOf (part xs at k) → Bad ≡ numberBeforeSpaces (part xs at n)
+  before-bad e h p = by (every isSpace (part xs (at + k) (n - k))) refl
+    where
+      by : (b : Bool) → b ≡ every isSpace (part xs (at + k) (n - k)) → Bad ≡ numberBeforeSpaces (part xs at n)
+      by true s = before-part xs at n k e h s refl p
+      by false s = no-before-part xs at n k e h s refl
+
+  module _ {v : ℕ} (t : Leads (part xs at n) k v) (h : k ≤ n) where
+    pub closed-none : k ≡ 0 → Bad ≡ numberBeforeSpaces (part xs at n)
+    closed-none e = before-bad (t .count) h (number-empty xs at k (omega arith) e)
+
+    module _ (some : k ≡ 0 → ⊥) where
+      pub closed-zero : getD xs at 0 ≡ 48 → Bad ≡ numberBeforeSpaces (part xs at n)
+      closed-zero e = before-bad (t .count) h (number-zero xs at k (omega arith) some e)
+
+      module _ (first : getD xs at 0 ≡ 48 → ⊥) {b : Bool} (s : b ≡ every isSpace (part xs (at + k) (n - k))) where
+        pub closed-yes : b ≡ true → Is v ≡ numberBeforeSpaces (part xs at n)
+        closed-yes y =
+            let d : every isDigit (part xs at k) ≡ true
+            = rw (← t .count, part-take xs at n k h) at (every-leading isDigit (part xs at n)) in
+            before-part xs at n k (t .count) h s y
+            (number-done xs at k (omega arith) v k some first (omega arith) (omega arith) (t .most) (t .is ∙ ap decimal (part-take xs at n k h)) d)
+
+        pub closed-no : b ≡ false → Bad ≡ numberBeforeSpaces (part xs at n)
+        closed-no y = no-before-part xs at n k (t .count) h s y
+
+-- digits that write too much, whatever follows
+pub before-past : (xs : List ℕ) (at n k : ℕ) → at + n ≤ length xs → k < n → (v : ℕ) → v ≡ decimal (part xs at (k + 1)) → every isDigit (part xs at (k + 1)) ≡ true → highestNumber < v
+    → Bad ≡ numberBeforeSpaces (part xs at n)
+before-past xs at n k fits l v e d h =
+    let m : ℕ = leading isDigit (part xs at n) in
+    let more : m ≡ k + 1 + leading isDigit (part xs (at + (k + 1)) (n - (k + 1))) = digits-lead xs at n (k + 1) fits (omega arith) d in
+    let most : m ≤ n = rw (part-length xs at n fits) at (leading-le isDigit (part xs at n)) in
+    before-bad xs at n m fits refl most (number-past xs at m (omega arith) k (omega arith) v e h)
+
+-- ---- digits alone
+
+module _ (xs : List ℕ) (at n : ℕ) (fits : at + n ≤ length xs) (some : n ≡ 0 → ⊥) where
+  pub number-spaced : getD xs (at + (n - 1)) 0 ≡ 32 → Bad ≡ numberOf (part xs at n)
+  number-spaced e = number-low xs at n fits (n - 1) (omega (arith, some)) (omega arith)
+
+  module _ (last : getD xs (at + (n - 1)) 0 ≡ 32 → ⊥) where
+    m : ℕ
+    m = leading isDigit (part xs at n)
+
+    most : m ≤ n
+    unfolding m
+    most = rw (part-length xs at n fits) at (leading-le isDigit (part xs at n))
+
+    no-spaces : m < n → every isSpace (part xs (at + m) (n - m)) ≡ true → ⊥
+    no-spaces l t =
+        let j : at + m + (n - m - 1) ≡ at + (n - 1) = omega (arith, most) in
+        let long : length (part xs (at + m) (n - m)) ≡ n - m = part-length xs (at + m) (n - m) (omega (arith, most)) in
+        let e : isSpace (getD xs (at + (n - 1)) 0) ≡ true
+        = rw (part-at xs (at + m) (n - m) (n - m - 1) (omega arith), j) at (every-at isSpace (part xs (at + m) (n - m)) t (n - m - 1) (omega arith)) in
+        let v : ℕ = getD xs (at + (n - 1)) 0 in
+        last (omega (arith, leb-true 32 v (both-left (leb 32 v) (leb v 32) e), leb-true v 32 (both-right (leb 32 v) (leb v 32) e)))
+
+    not-all : m < n → Bad ≡ numberOf (part xs at n)
+    unfolding m
+    not-all l =
+        refuses (part xs at n)
+        (λ t.
+        let all : every isDigit (part xs at n) ≡ true = both-right (beginsWithNonZero (part xs at n)) (every isDigit (part xs at n)) (both-left _ _ t) in
+        let e : m ≡ length (part xs at n) = eqb-true m (length (part xs at n)) (leading-every isDigit (part xs at n) ∙ all) in
+        omega (arith, part-length xs at n fits))
+
+    pub number-unspaced : {r : Number} → r ≡ numberBeforeSpaces (part xs at n) → r ≡ numberOf (part xs at n)
+    unfolding m every
+    number-unspaced {r} p = by (decLt m n) (every isSpace (part xs (at + m) (n - m))) refl
+      where
+        by : Dec (m < n) → (b : Bool) → b ≡ every isSpace (part xs (at + m) (n - m)) → r ≡ numberOf (part xs at n)
+        by (yes l) true e = absurd (no-spaces l (sym e))
+        by (yes l) false e = p ∙ sym (no-before-part xs at n m refl most e refl) ∙ not-all l
+        by (no l) b e =
+            let q : m ≡ n = omega (arith, most) in
+            let none : true ≡ every isSpace (part xs (at + m) (n - m)) = rw (rest-none xs at n m (omega arith)) in
+            p ∙ sym (before-part xs at n m refl most none refl refl) ∙ rw q
 
 -- ---- writing digits from the last to the first
 

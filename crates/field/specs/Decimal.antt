@@ -1,6 +1,7 @@
 -- Numbers in characters: what characters write, and the characters that write a number.
 -- Assumes nothing.
-use Prim.Native.Nat.{ℕ, zero, suc, _+_, _-_, _/_}
+use Prim.Native.Nat.{ℕ, zero, suc, _+_, _-_, _/_, _≤_}
+use mathlib.Core.Path.{_≡_}
 use mathlib.Core.Bool.{Bool, true, false, _&&_, cond, not}
 use mathlib.Core.List.{List, [], _∷_, _++_, map}
 use lib.Dec.{eqb, leb, ltb}
@@ -34,6 +35,12 @@ unfoldable pub numberBeforeSpaces : List ℕ → Number
 numberBeforeSpaces cs =
     let n = leading isDigit cs in
     cond (every isSpace (drop n cs)) (numberOf (take n cs)) Bad
+
+-- the digits in front are k, and write v
+pub record Leads (cs : List ℕ) (k v : ℕ) : Type 0 where
+  pub count : k ≡ leading isDigit cs
+  pub most : v ≤ highestNumber
+  pub is : v ≡ decimal (take k cs)
 
 -- ---- the characters that write a number
 

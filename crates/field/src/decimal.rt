@@ -5,7 +5,7 @@ ghost use mathlib.Core.Path.{_≡_};
 ghost use Prim.Native.Nat.{_+_, _≤_};
 ghost use lib.ListN.{length};
 ghost use Rattle.field.specs.Bytes.{part, overlay};
-ghost use Rattle.field.specs.Decimal.{numberOf, numberAfterSpaces, numberBeforeSpaces, digitChars, digitCount, charsThenSpaces};
+ghost use Rattle.field.specs.Decimal.{Leads, numberOf, numberAfterSpaces, numberBeforeSpaces, digitChars, digitCount, charsThenSpaces};
 
 // What characters write: a number from 1 to 10^12, or none.
 pub enum Number {
@@ -13,23 +13,33 @@ pub enum Number {
     Bad,
 }
 
-// The number that the n bytes write with digits alone, from `at` on.
-fn unpadded_number(s: &[u8], at: usize, n: usize) -> Number
-    requires { ⌜ at + n ≤ length (now s) ⌝ }
-    ensures { λ r. ⌜ r ≡ numberOf (part (now (s .entry)) at n) ⌝ }
+// What follows the first k of n characters, which are digits and write v: spaces alone.
+fn closed_number(s: &[u8], at: usize, n: usize, k: usize, v: u64) -> Number
+    requires { ⌜ (at + n ≤ length (now s)) × (k ≤ n) × Leads (part (now s) at n) k v ⌝ }
+    ensures { λ r. ⌜ r ≡ numberBeforeSpaces (part (now (s .entry)) at n) ⌝ }
 {
-    if n == 0 {
+    if k == 0 {
         return Number::Bad;
     }
     if s[at] == 48 {
         return Number::Bad;
     }
+    if text::only(s, at + k, n - k, b' ') {
+        return Number::Is(v);
+    }
+    Number::Bad
+}
+
+pub fn number_before_spaces(s: &[u8], at: usize, n: usize) -> Number
+    requires { ⌜ at + n ≤ length (now s) ⌝ }
+    ensures { λ r. ⌜ r ≡ numberBeforeSpaces (part (now (s .entry)) at n) ⌝ }
+{
     let mut v: u64 = 0;
     let mut k = 0;
     while k < n {
         let c = s[at + k];
         if c < 48 {
-            return Number::Bad;
+            return closed_number(s, at, n, k, v);
         }
         if 57 < c {
             return Number::Bad;
@@ -41,7 +51,21 @@ fn unpadded_number(s: &[u8], at: usize, n: usize) -> Number
         }
         k += 1;
     }
-    Number::Is(v)
+    closed_number(s, at, n, k, v)
+}
+
+// The number that the n bytes write with digits alone, from `at` on: digits and then spaces, of which there are none.
+fn unpadded_number(s: &[u8], at: usize, n: usize) -> Number
+    requires { ⌜ at + n ≤ length (now s) ⌝ }
+    ensures { λ r. ⌜ r ≡ numberOf (part (now (s .entry)) at n) ⌝ }
+{
+    if n == 0 {
+        return Number::Bad;
+    }
+    if s[at + (n - 1)] == b' ' {
+        return Number::Bad;
+    }
+    number_before_spaces(s, at, n)
 }
 
 pub fn number_after_spaces(s: &[u8], at: usize, n: usize) -> Number
@@ -50,18 +74,6 @@ pub fn number_after_spaces(s: &[u8], at: usize, n: usize) -> Number
 {
     let k = text::run(s, at, n, 32, 32);
     unpadded_number(s, at + k, n - k)
-}
-
-pub fn number_before_spaces(s: &[u8], at: usize, n: usize) -> Number
-    requires { ⌜ at + n ≤ length (now s) ⌝ }
-    ensures { λ r. ⌜ r ≡ numberBeforeSpaces (part (now (s .entry)) at n) ⌝ }
-{
-    let k = text::run(s, at, n, 48, 57);
-    if text::only(s, at + k, n - k, b' ') {
-        unpadded_number(s, at, k)
-    } else {
-        Number::Bad
-    }
 }
 
 pub fn digit_count(v: u64) -> usize
