@@ -10,13 +10,13 @@ use borrow.Author.Tests.{leb-true, leb-false, not-true}
 use lib.Dec.{leb}
 use lib.ListN.{length, getD, replicate, length-replicate, getD-replicate, List·getD-eq-default}
 use Rattle.field.specs.Bytes.{part, same, Bytes}
-use Rattle.field.specs.Text.{within, every, isZero}
+use Rattle.field.specs.Text.{every, isZero}
 use Rattle.field.proofs.Bools.{both-left, both-right}
 use Rattle.field.proofs.Numbers.{part-bytes, Lent, lent-bytes}
 use Rattle.field.proofs.Parts.{part-length, part-at, part-replicate}
 use Rattle.field.proofs.Runs.{every-at, every-replicate}
 use Rattle.field.proofs.Same.{test-same, same-test}
-use Rattle.message.specs.Layout.{Row, bytesIn, valueIn, values}
+use Rattle.message.specs.Layout.{Row, values}
 use Rattle.message.specs.Letters.{letterIn}
 use Rattle.message.proofs.Layouts.{never}
 use Rattle.message.proofs.Typed.{inside}

@@ -5,23 +5,21 @@ use mathlib.Core.List.{List, _∷_}
 use Prim.Native.Nat.{ℕ}
 use native.Mathlib.Omega.{arith}
 use lib.ListN.{length, getD, replicate, length-replicate}
-use Rattle.field.specs.Bytes.{part, overlay, be}
+use Rattle.field.specs.Bytes.{overlay}
 use Rattle.field.proofs.Numbers.{be-one}
 use Rattle.field.proofs.Parts.{overlay-whole}
-use Rattle.message.specs.Layout.{num, values}
+use Rattle.message.specs.Layout.{values}
 use Rattle.message.specs.Feed.{Letter, Sized}
 use Rattle.message.specs.Letters.{Content, letters, letterIn, letterFor, unlisted}
 use Rattle.message.specs.Message.{refused, told, readOf}
 use Rattle.message.specs.Test.{tested}
 use Rattle.message.specs.declared.Message.{Message}
-use Rattle.message.specs.declared.Texts.{Texts}
-use Rattle.message.specs.declared.Refusal.the-variants.{UnknownLetter, WrongLength, BadField}
 use Rattle.message.specs.declared.Reading.{Reading}
 use Rattle.message.proofs.Feeds.{Verdict, empty, unknown, long, field, whole, code-found}
 use Rattle.message.proofs.Table.{found-makes}
 use Rattle.message.proofs.Verdicts.{read-verdict}
 use Rattle.record.specs.Places.{recordSize, placesFor, recordLetters}
-use Rattle.record.specs.Record.{laid, laidFrom, laidOver, recordBytes, readTo}
+use Rattle.record.specs.Record.{laidFrom, laidOver, recordBytes, readTo}
 use Rattle.record.proofs.Rounds.{placed}
 
 -- a listed letter's fields are laid as the message that they make is

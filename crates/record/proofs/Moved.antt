@@ -18,7 +18,7 @@ use Rattle.message.specs.Layout.{Rule, binary, decimal, text, bytes, Row, value
 use Rattle.message.specs.Letters.{letters, letterIn, anything, endOfReplayRows, endOfReplayOf, stampRows, stampOf, instrumentRows, directoryRows, quoteRows, systemEventRows, shortNumbersRows, longNumbersRows, longNumbersFields, longNumbersOf, shortQuoteRows, longQuoteRows, shortSideRows, longSideRows}
 use Rattle.message.specs.declared.Side.{Side}
 use Rattle.message.proofs.Layouts.{plain}
-use Rattle.record.specs.Places.{recordSize, letterPlace, codePlace, stampPlaces, instrumentPlaces, directoryPlaces, endOfReplayPlaces, recordLetters, headPlaces, systemEventPlaces, sideAt, shortPlaces, longPlaces, shortQuotePlaces, longQuotePlaces, shortSidePlaces, longSidePlaces}
+use Rattle.record.specs.Places.{recordSize, letterPlace, stampPlaces, instrumentPlaces, directoryPlaces, endOfReplayPlaces, recordLetters, headPlaces, systemEventPlaces, sideAt, shortPlaces, longPlaces, shortQuotePlaces, longQuotePlaces, shortSidePlaces, longSidePlaces}
 use Rattle.record.specs.Record.{laid, laidFrom, laidBack}
 use Rattle.record.proofs.Puts.{long-laid, head-length, numbers-length}
 
@@ -112,22 +112,18 @@ after rs ps rs′ ps′ bs xs l e f = f ∙ ap (laid ps′ (values rs′ bs)) e 
 
 pub stamp-moved : (xs bs : List ℕ) {us vs zs : List ℕ} → Lent bs → 11 ≤ length bs → us ≡ overlay xs 0 (part bs 0 1) → vs ≡ overlay us 2 (part bs 1 2)
     → zs ≡ overlay vs 8 (part bs 3 8) → zs ≡ laid (letterPlace ∷ stampPlaces) (values (letterPlace ∷ stampRows) bs) xs
-stamp-moved xs bs {us} {vs} {zs} k h e f g =
-    laid-moved (letterPlace ∷ stampRows) (letterPlace ∷ stampPlaces) bs xs zs
-    (omega arith, refl, refl, refl, (omega arith, refl, refl, refl, (h, refl, refl, refl, tt))) (lent-bytes bs k) (us, e, (vs, f, (zs, g, refl)))
+unfolding paired
+stamp-moved xs bs {us} {vs} {zs} k h e f g = moved 11 (letterPlace ∷ stampRows) (letterPlace ∷ stampPlaces) bs xs refl h k (us, e, (vs, f, (zs, g, refl)))
 
 pub head-moved : (xs bs : List ℕ) {us vs zs : List ℕ} → Lent bs → 16 ≤ length bs → us ≡ laid (letterPlace ∷ stampPlaces) (values (letterPlace ∷ stampRows) bs) xs
     → vs ≡ overlay us 4 (part bs 11 4) → zs ≡ overlay vs 1 (part bs 15 1) → zs ≡ laid (letterPlace ∷ headPlaces) (values (letterPlace ∷ quoteRows) bs) xs
-unfolding laid values
-head-moved xs bs {us} {vs} {zs} k h e f g =
-    laid-moved (drop 2 quoteRows) (drop 2 headPlaces) bs us zs (omega arith, refl, refl, refl, (h, refl, refl, refl, tt)) (lent-bytes bs k) (vs, f, (zs, g, refl))
-    ∙ rw e
+unfolding laid values paired
+head-moved xs bs {us} {vs} {zs} k h e f g = moved 16 (drop 2 quoteRows) (drop 2 headPlaces) bs us refl h k (vs, f, (zs, g, refl)) ∙ rw e
 
 pub event-moved : (xs bs : List ℕ) {us zs : List ℕ} → Lent bs → 12 ≤ length bs → us ≡ laid (letterPlace ∷ stampPlaces) (values (letterPlace ∷ stampRows) bs) xs
     → zs ≡ overlay us 1 (part bs 11 1) → zs ≡ laid (letterPlace ∷ systemEventPlaces) (values (letterPlace ∷ systemEventRows) bs) xs
-unfolding laid values
-event-moved xs bs {us} {zs} k h e f =
-    laid-moved (drop 2 systemEventRows) (drop 2 systemEventPlaces) bs us zs (h, refl, refl, refl, tt) (lent-bytes bs k) (zs, f, refl) ∙ rw e
+unfolding laid values paired
+event-moved xs bs {us} {zs} k h e f = moved 12 (drop 2 systemEventRows) (drop 2 systemEventPlaces) bs us refl h k (zs, f, refl) ∙ rw e
 
 pub short-moved : (xs bs : List ℕ) (at from : ℕ) {us vs ws ys zs : List ℕ} → Lent bs → from + 10 ≤ length bs → us ≡ overlay xs (at + 2) (part bs from 2)
     → vs ≡ overlay us (at + 6) (part bs (from + 2) 2) → ws ≡ overlay vs (at + 10) (part bs (from + 4) 2) → ys ≡ overlay ws (at + 14) (part bs (from + 6) 2)
@@ -179,10 +175,9 @@ module _ (xs bs : List ℕ) {us : List ℕ} (e : us ≡ laid (letterPlace ∷ he
 pub terms-moved : (xs bs : List ℕ) {us vs ws ys zs : List ℕ} → Lent bs → 63 ≤ length bs → us ≡ overlay xs 4 (part bs 11 4) → vs ≡ overlay us 75 (part bs 15 8)
     → ws ≡ overlay vs 68 (part bs 23 1) → ys ≡ overlay ws 69 (part bs 24 1) → zs ≡ overlay ys 70 (part bs 25 1)
     → zs ≡ laid (take 5 instrumentPlaces) (values (take 5 instrumentRows) bs) xs
+unfolding paired
 terms-moved xs bs {us} {vs} {ws} {ys} {zs} k h e f g i j =
-    laid-moved (take 5 instrumentRows) (take 5 instrumentPlaces) bs xs zs
-    (omega arith, refl, refl, refl, (omega arith, refl, refl, refl, (omega arith, refl, refl, refl, (omega arith, refl, refl, refl, (omega arith, refl, refl, refl, tt)))))
-    (lent-bytes bs k) (us, e, (vs, f, (ws, g, (ys, i, (zs, j, refl)))))
+    moved 63 (take 5 instrumentRows) (take 5 instrumentPlaces) bs xs refl h k (us, e, (vs, f, (ws, g, (ys, i, (zs, j, refl)))))
 
 pub underlying-moved : (xs bs : List ℕ) {us vs zs : List ℕ} → 63 ≤ length bs → recordSize ≤ length xs → us ≡ overlay xs 83 (part bs 31 8)
     → vs ≡ overlay us 91 (part bs 39 4) → zs ≡ overlay vs 95 (part bs 43 1) → zs ≡ overlay xs 83 (part bs 31 13)
@@ -194,16 +189,15 @@ reserved-moved xs bs {us} {zs} h g e f = carried-run bs 47 xs 96 8 (8 ∷ []) (o
 
 pub middle-moved : (xs bs : List ℕ) {us vs zs : List ℕ} → Lent bs → 63 ≤ length bs → us ≡ overlay xs 64 (part bs 26 4) → vs ≡ overlay us 71 (part bs 30 1)
     → zs ≡ overlay vs 83 (part bs 31 13) → zs ≡ laid (take 3 (drop 5 instrumentPlaces)) (values (take 3 (drop 5 instrumentRows)) bs) xs
+unfolding paired
 middle-moved xs bs {us} {vs} {zs} k h e f g =
-    laid-moved (take 3 (drop 5 instrumentRows)) (take 3 (drop 5 instrumentPlaces)) bs xs zs
-    (omega arith, refl, refl, refl, (omega arith, refl, refl, refl, (omega arith, refl, refl, refl, tt))) (lent-bytes bs k) (us, e, (vs, f, (zs, g, refl)))
+    moved 63 (take 3 (drop 5 instrumentRows)) (take 3 (drop 5 instrumentPlaces)) bs xs refl h k (us, e, (vs, f, (zs, g, refl)))
 
 pub marks-moved : (xs bs : List ℕ) {us vs ws zs : List ℕ} → Lent bs → 63 ≤ length bs → us ≡ overlay xs 72 (part bs 44 1) → vs ≡ overlay us 73 (part bs 45 1)
     → ws ≡ overlay vs 74 (part bs 46 1) → zs ≡ overlay ws 96 (part bs 47 16) → zs ≡ laid (drop 8 instrumentPlaces) (values (drop 8 instrumentRows) bs) xs
+unfolding paired
 marks-moved xs bs {us} {vs} {ws} {zs} k h e f g i =
-    laid-moved (drop 8 instrumentRows) (drop 8 instrumentPlaces) bs xs zs
-    (omega arith, refl, refl, refl, (omega arith, refl, refl, refl, (omega arith, refl, refl, refl, (h, refl, refl, refl, tt)))) (lent-bytes bs k)
-    (us, e, (vs, f, (ws, g, (zs, i, refl))))
+    moved 63 (drop 8 instrumentRows) (drop 8 instrumentPlaces) bs xs refl h k (us, e, (vs, f, (ws, g, (zs, i, refl))))
 
 pub directory-moved : (xs bs : List ℕ) {us vs ws zs : List ℕ} → us ≡ laid (letterPlace ∷ stampPlaces) (values (letterPlace ∷ stampRows) bs) xs
     → vs ≡ laid (take 5 instrumentPlaces) (values (take 5 instrumentRows) bs) us → ws ≡ laid (take 3 (drop 5 instrumentPlaces)) (values (take 3 (drop 5 instrumentRows)) bs) vs

@@ -6,8 +6,8 @@ use mathlib.Core.List.{List, [], _∷_, _++_}
 use Prim.Native.Nat.{ℕ, _+_, _*_, _≤_, _<_}
 use native.Mathlib.Omega.{arith}
 use borrow.Author.Tests.{eqb-true, eqb-false, eq-eqb, ne-eqb, le-leb, lt-leb, not-true, not-false}
-use lib.Dec.{eqb, leb}
-use lib.ListN.{length, getD, length-append}
+use lib.Dec.{eqb}
+use lib.ListN.{length, getD}
 use Rattle.field.specs.Bytes.{part, overlay, be, bytesBe, same, Bytes}
 use Rattle.field.proofs.Numbers.{be-one, Lent, lent-bytes, rewrites, part-below}
 use Rattle.field.proofs.Parts.{part-one, overlay-none, overlay-length, overlay-next}
@@ -23,11 +23,11 @@ use Rattle.field.proofs.Bools.{both-left, both-right}
 use Rattle.message.proofs.Layouts.{bytes-length, fields-length}
 use Rattle.message.proofs.Feeds.{found, code-found, tiled-found}
 use Rattle.message.proofs.Table.{found-makes, is-listed-letter, letters-tiled}
-use Rattle.record.specs.Places.{recordSize, letterPlace, placesFor, recordLetters}
+use Rattle.record.specs.Places.{recordSize, letterPlace, recordLetters}
 use Rattle.record.specs.Record.{laid, laidOver, recordBytes, held, noRecord, saidBy, saidOf, confirmed, recordOf, answered, writtenAs, writeFrom, writeAnswer, laidBack, isOwn}
 use Rattle.record.specs.declared.Held.{Held}
 use Rattle.record.proofs.Rounds.{placed}
-use Rattle.record.proofs.Typed.{is-said, said-roomy, record-makes, typed}
+use Rattle.record.proofs.Typed.{said-roomy, record-makes, typed}
 
 -- fields that stand one after the other are laid as one run
 tiled-laid : (rs : List Row) (vs : List Value) (xs : List ℕ) (at end : ℕ) → tiled at rs end ≡ true → Fit rs vs → end ≤ length xs

@@ -1,33 +1,28 @@
 -- The ways through the code: what it finds, test by test, is what the definitions say.
 -- Assumes nothing.
 use mathlib.Core.Path.{_≡_, refl, sym, ap, _∙_}
-use mathlib.Core.Bool.{Bool, true, false, cond}
+use mathlib.Core.Bool.{Bool, true, false}
 use mathlib.Core.List.{List}
-use Prim.Native.Nat.{ℕ, _+_, _*_, _≤_}
+use Prim.Native.Nat.{ℕ, _+_, _≤_}
 use native.Mathlib.Omega.{arith}
 use borrow.Author.Tests.{eq-eqb, ne-eqb}
-use lib.Dec.{leb}
 use lib.ListN.{length, getD, replicate}
 use Rattle.field.specs.Bytes.{part, overlay, be, same}
 use Rattle.field.proofs.Parts.{part-length, part-whole, overlay-whole}
 use Rattle.message.specs.Layout.{values}
 use Rattle.message.specs.Feed.{Letter}
-use Rattle.message.specs.Letters.{Content, letterIn, letterFor, unlisted, directoryLetter, noTexts, shortNumbersOf, textsOf}
+use Rattle.message.specs.Letters.{Content, letterIn, unlisted, noTexts, shortNumbersOf, textsOf}
 use Rattle.message.specs.Test.{tested}
-use Rattle.message.specs.Message.{writeRefusalNumber, readOf, keeps, bytesOf, Outcome, outcome, writeOf}
+use Rattle.message.specs.Message.{readOf}
 use Rattle.message.specs.declared.ShortNumbers.{ShortNumbers}
 use Rattle.message.specs.declared.Message.{Message}
 use Rattle.message.specs.declared.Message.the-variants as message
 use Rattle.message.specs.declared.Texts.{Texts}
 use Rattle.message.specs.declared.Answer.{Answer}
 use Rattle.message.specs.declared.Answer.the-variants as reading
-use Rattle.message.specs.declared.Written.{Written}
-use Rattle.message.specs.declared.Written.the-variants.{Whole, Unwritten}
-use Rattle.message.specs.declared.WriteRefusal.{WriteRefusal}
-use Rattle.message.specs.declared.WriteRefusal.the-variants.{BrokenRecord, ShortOutput}
 use Rattle.message.proofs.Feeds.{found}
 use Rattle.record.specs.Places.{recordSize, shortPlaces, instrumentPlaces, recordLetters}
-use Rattle.record.specs.Record.{laidOver, recordBytes, held, noRecord, saidBy, saidOf, confirmed, recordOf, answered, readTo, readAnswer, writtenAs, writeFrom, writeAnswer}
+use Rattle.record.specs.Record.{laidOver, recordBytes, held, noRecord, saidBy, saidOf, confirmed, recordOf, answered, readTo, readAnswer, writeAnswer}
 use Rattle.record.specs.declared.Taken.{Taken}
 use Rattle.record.specs.declared.Taken.the-variants.{Is, NoRecord}
 use Rattle.record.specs.declared.Held.{Held}

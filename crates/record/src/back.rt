@@ -15,7 +15,7 @@ ghost use Rattle.field.specs.Limits.{timeInRange};
 ghost use Rattle.field.specs.Text.{every, isZero};
 ghost use Rattle.message.specs.Layout.{values, keepsAll};
 ghost use Rattle.message.specs.Letters.{letters, letterIn, listed, conditions, endOfReplayRows, stampRows, instrumentRows, directoryRows, quoteRows, systemEventRows, shortNumbersRows, shortQuoteRows, longQuoteRows, shortSideRows, longSideRows};
-ghost use Rattle.record.specs.Places.{recordSize, letterPlace, stampPlaces, instrumentPlaces, directoryPlaces, endOfReplayPlaces, headPlaces, systemEventPlaces, sideAt, shortPlaces, highPlaces, shortQuotePlaces, longQuotePlaces, shortSidePlaces, longSidePlaces, recordLetters};
+ghost use Rattle.record.specs.Places.{recordSize, letterPlace, stampPlaces, instrumentPlaces, directoryPlaces, endOfReplayPlaces, headPlaces, systemEventPlaces, shortPlaces, highPlaces, shortQuotePlaces, longQuotePlaces, shortSidePlaces, longSidePlaces, recordLetters};
 ghost use Rattle.record.specs.Record.{laid, laidBack, isOwn, clear};
 
 // ---- the fields, each moved to its place in the message

@@ -7,7 +7,7 @@ ghost use Rattle.field.specs.Bytes.{same};
 ghost use Rattle.message.specs.Message.{readOf};
 ghost use Rattle.message.specs.Test.{tested};
 ghost use Rattle.record.specs.Places.{recordSize};
-ghost use Rattle.record.specs.Record.{recordBytes, held, noRecord, recordOf, answered, readTo, readAnswer, writeAnswer};
+ghost use Rattle.record.specs.Record.{recordBytes, noRecord, recordOf, answered, readTo, readAnswer, writeAnswer};
 
 mod back;
 mod lay;

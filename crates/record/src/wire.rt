@@ -8,7 +8,7 @@ ghost use lib.ListN.{length, take, drop, getD};
 ghost use Rattle.field.specs.Bytes.{part, overlay};
 ghost use Rattle.message.specs.Layout.{values};
 ghost use Rattle.message.specs.Letters.{letters, letterIn, endOfReplayRows, stampRows, instrumentRows, directoryRows, quoteRows, systemEventRows, shortNumbersRows, shortQuoteRows, longQuoteRows, shortSideRows, longSideRows};
-ghost use Rattle.record.specs.Places.{recordSize, letterPlace, stampPlaces, instrumentPlaces, directoryPlaces, endOfReplayPlaces, headPlaces, systemEventPlaces, sideAt, shortPlaces, shortQuotePlaces, longQuotePlaces, shortSidePlaces, longSidePlaces};
+ghost use Rattle.record.specs.Places.{recordSize, letterPlace, stampPlaces, instrumentPlaces, directoryPlaces, endOfReplayPlaces, headPlaces, systemEventPlaces, shortPlaces, shortQuotePlaces, longQuotePlaces, shortSidePlaces, longSidePlaces};
 ghost use Rattle.record.specs.Record.{laid, laidFrom};
 ghost use Rattle.message.specs.Feed.{Sized};
 

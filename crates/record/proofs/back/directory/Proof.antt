@@ -1,7 +1,7 @@
 -- `record::back::directory` meets its contract.
 -- Assumes nothing.
 use mathlib.Core.Path.{refl}
-use mathlib.Core.List.{_∷_, _++_}
+use mathlib.Core.List.{_∷_}
 use borrow.Author.Needs.{needs}
 use lib.ListN.{take, drop}
 use Rattle.message.specs.Letters.{stampRows, instrumentRows}
