@@ -22,8 +22,9 @@
  * that memory which is only read may be the same. Nothing is allocated and
  * nothing is printed.
  *
- * Stack: measured by `host/run stack`, a step takes up to 2,600 bytes and every
- * other call up to 800; NELQUBAT_STACK_BYTES is more than any was seen to take.
+ * Stack: measured by `host/run stack`, a step takes up to 1,100 bytes, saving
+ * and restoring up to 1,600 and every other call up to 400;
+ * NELQUBAT_STACK_BYTES is more than any was seen to take.
  *
  * Threads: calls that share no memory may run at the same time. While a step,
  * a start or a restore runs, no other thread may read or write the memory that

@@ -32,7 +32,7 @@ use Rattle.reader.specs.declared.Stepped.{Stepped}
 use Rattle.reader.specs.declared.Started.{Started}
 use Rattle.demands.specs.Callers.{Steps, stop, step}
 use Rattle.demands.specs.Sound.{begin, SoundSession, Ours}
-use Rattle.demands.proofs.Bytes.{bytes-none, spaces-bytes, bytes-append, bytes-left, bytes-right, bytes-drop}
+use Rattle.packet.proofs.Bytes.{bytes-none, spaces-bytes, bytes-append, bytes-left, bytes-right, bytes-drop}
 use Rattle.demands.proofs.Kept.{Kept, ours-kept, kept-ours, ours-within, stepping-is, step-ours}
 
 -- ---- steps

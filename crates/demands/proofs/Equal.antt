@@ -8,17 +8,18 @@ use Rattle.field.proofs.Answers.{equal-answers}
 use Rattle.packet.specs.Stream as stream
 use Rattle.packet.specs.Session as packets
 use Rattle.packet.specs.Session.{Session, Event}
-use Rattle.reader.specs.Refusals.{refusalNumber, namedIn, named}
+use Rattle.reader.specs.Refusals.{refusalNumber, named}
 use Rattle.reader.specs.Deliver.{Table, Said}
-use Rattle.reader.specs.View.{eventOf, answerOf, stateOf, Seen, seenOf, steppedWith, heldIn, sessionIn, sessionOf}
-use Rattle.reader.specs.Calls.{Stepping, Lent, lentOf, LentStepping, Starting, Begun, begunOf, startNumber}
+use Rattle.reader.specs.View.{eventOf, answerOf, stateOf, Seen, seenOf, heldIn, sessionIn, sessionOf}
+use Rattle.reader.specs.Calls.{Stepping, Starting, Begun, begunOf, startNumber}
 use Rattle.image.specs.Save.{Saving, saving}
 use Rattle.image.specs.declared.Saved.{Saved}
+use Rattle.reader.specs.Handles as hosts
+use Rattle.reader.specs.Handles.{hostStepped, HostSteps}
 use Rattle.reader.specs.Saving.{Saves, Came, cameOf, Restores}
 use Rattle.reader.specs.declared.Texts.{Texts}
 use Rattle.reader.specs.declared.Restored.{Restored}
 use Rattle.reader.specs.declared.Refusal.{Refusal}
-use Rattle.reader.specs.declared.Refusal.the-variants as refusal
 use Rattle.reader.specs.declared.Event as code
 use Rattle.reader.specs.declared.Event.the-variants as event
 use Rattle.reader.specs.declared.StepAnswer.{StepAnswer}
@@ -27,33 +28,15 @@ use Rattle.reader.specs.declared.StartAnswer.{StartAnswer}
 use Rattle.reader.specs.declared.StartAnswer.the-variants as started
 use Rattle.reader.specs.declared.Reader.{Reader}
 use Rattle.reader.specs.declared.Stepped.{Stepped}
-use Rattle.reader.specs.declared.Moved.{Moved}
-use Rattle.handle.specs.declared.Head.{Head}
 use Rattle.reader.specs.declared.Started.{Started}
 use Rattle.reader.proofs.Ways.{some-number}
+use Rattle.reader.proofs.Fits.{name-back}
+use Rattle.reader.proofs.Views.{session-in, held-in}
 use Rattle.demands.specs.Same.{SameReader, SameStep, SameStart, SameRestore}
-use Rattle.demands.proofs.View.{refusalIn, endedIn, session-of, held-of, ended-of, refusal-of}
+use Rattle.demands.proofs.View.{refusalIn, endedIn, ended-of, refusal-of}
 use Rattle.demands.proofs.Names.{saved-same, verdicts-same}
 
 -- ---- the code's answer again, from the definition's
-
--- no two names have one number
-pub name-back : (r : Refusal) → named (refusalNumber r) ≡ r
-unfolding named namedIn
-name-back refusal.Unfit = refl
-name-back refusal.BadPacketLength = refl
-name-back refusal.UnknownPacket = refl
-name-back refusal.WrongPlace = refl
-name-back refusal.BadForm = refl
-name-back refusal.NotNext = refl
-name-back refusal.NumbersUsedUp = refl
-name-back refusal.UnknownMessage = refl
-name-back refusal.WrongLength = refl
-name-back refusal.BadField = refl
-name-back refusal.NoRow = refl
-name-back refusal.NoQuotes = refl
-name-back refusal.FixedField = refl
-name-back refusal.TableFull = refl
 
 abbrev pub eventBack : Event Said → code.Event
 eventBack (packets.login n s) = event.Login n
@@ -91,14 +74,14 @@ answer-is s e = sym (answer-back (s .texts) (s .answer)) ∙ ap answerBack e
 pub same-readers : (a b : Reader) (t t′ : List ℕ) → stateOf a t ≡ stateOf b t′ → a .used ≡ b .used → SameReader a b × (t ≡ t′)
 same-readers a b t t′ e u =
     let inner : sessionOf (a .line) (a .board) t ≡ sessionOf (b .line) (b .board) t′
-    = sym (session-of a t) ∙ ap sessionIn e ∙ session-of b t′ in (
+    = sym (session-in a t) ∙ ap sessionIn e ∙ session-in b t′ in (
       record {
         line = ap (λ (s : Session Table). s .line) inner;
         board = ap (λ (s : Session Table). s .about .board) inner;
         ended = sym (ended-of a t) ∙ ap endedIn e ∙ ended-of b t′;
         refusal = sym (refusal-of a t) ∙ ap refusalIn e ∙ refusal-of b t′;
         used = u;
-        held = sym (held-of a t) ∙ ap heldIn e ∙ held-of b t′;
+        held = sym (held-in a t) ∙ ap heldIn e ∙ held-in b t′;
       },
       ap (λ (s : Session Table). s .about .memory) inner,
     )
@@ -119,28 +102,12 @@ same-steps a b t t′ e =
 pub equal-steps : (r : Reader) (t piece : List ℕ) (a b : Stepped) (t₁ t₂ : List ℕ) → Stepping r t piece a t₁ → Stepping r t piece b t₂ → SameStep a b t₁ t₂
 equal-steps r t piece a b t₁ t₂ x y = same-steps a b t₁ t₂ (equal-answers x y)
 
--- THEOREM, of a step on lent places: all of it agrees, and every place of held bytes
-pub equal-lent-steps : (h : Head) (held t piece : List ℕ) (a b : Moved) (held₁ t₁ held₂ t₂ : List ℕ) → LentStepping h held t piece a held₁ t₁
-    → LentStepping h held t piece b held₂ t₂ → (a ≡ b) × (held₁ ≡ held₂) × (t₁ ≡ t₂)
-equal-lent-steps h held t piece a b held₁ t₁ held₂ t₂ x y =
-    let e : lentOf a held₁ t₁ ≡ lentOf b held₂ t₂ = equal-answers x y in
-    let s = same-steps (steppedWith a held₁) (steppedWith b held₂) t₁ t₂ (ap (λ (l : Lent). l .call) e) in (
-      (λ i.
-          record {
-            head = record {
-              line = s .reader .line i;
-              board = s .reader .board i;
-              ended = s .reader .ended i;
-              refusal = s .reader .refusal i;
-              used = s .reader .used i;
-            };
-            taken = s .taken i;
-            answer = s .answer i;
-            texts = s .texts i;
-          }),
-      ap (λ (l : Lent). l .held) e,
-      s .memory,
-    )
+-- THEOREM, of a step where a handle lies: every byte that it leaves agrees
+pub equal-host-steps : (handle table piece event : List ℕ) (a b : ℕ) (h₁ t₁ e₁ h₂ t₂ e₂ : List ℕ) → HostSteps handle table piece event a h₁ t₁ e₁
+    → HostSteps handle table piece event b h₂ t₂ e₂ → (a ≡ b) × (h₁ ≡ h₂) × (t₁ ≡ t₂) × (e₁ ≡ e₂)
+equal-host-steps handle table piece event a b h₁ t₁ e₁ h₂ t₂ e₂ x y =
+    let e : hostStepped a h₁ t₁ e₁ ≡ hostStepped b h₂ t₂ e₂ = equal-answers x y in
+    (ap (λ (q : hosts.Stepped). q .number) e, ap (λ (q : hosts.Stepped). q .handle) e, ap (λ (q : hosts.Stepped). q .table) e, ap (λ (q : hosts.Stepped). q .event) e)
 
 -- THEOREM, of a refusal by name: what is promised of its number fixes it
 pub equal-names : (r q : Refusal) → refusalNumber r ≡ refusalNumber q → r ≡ q

@@ -35,10 +35,11 @@ use Rattle.reader.specs.Limits.{unfinished, holdsUnfinished, withinLimits}
 use Rattle.reader.specs.Calls.{stepAll, Stepping}
 use Rattle.reader.specs.declared.Reader.{Reader}
 use Rattle.reader.specs.declared.Stepped.{Stepped}
+use Rattle.reader.proofs.Views.{session-in, held-in}
 use Rattle.demands.specs.Sound.{begin, SoundSession, Ours}
-use Rattle.demands.proofs.Bytes.{bytes-none, bytes-append, frame-bytes}
+use Rattle.packet.proofs.Bytes.{bytes-none, bytes-append, frame-bytes}
 use Rattle.demands.proofs.Applied.{Delivers, deliver-kept, sound-fits}
-use Rattle.demands.proofs.View.{refusalIn, session-of, held-of, refusal-of}
+use Rattle.demands.proofs.View.{refusalIn, refusal-of}
 
 -- ---- a packet
 
@@ -130,20 +131,20 @@ module _ (r : Reader) (t : List ℕ) where
   pub ours-kept : Ours r t → Kept (stateOf r t)
   ours-kept o =
       record {
-        sound = subst SoundSession (sym (session-of r t)) (o .sound);
+        sound = subst SoundSession (sym (session-in r t)) (o .sound);
         stands = ap standing (refusal-of r t) ∙ o .stands;
-        short = ap frame (held-of r t) ∙ o .short;
-        bytes = subst Bytes (sym (held-of r t)) (o .bytes);
+        short = ap frame (held-in r t) ∙ o .short;
+        bytes = subst Bytes (sym (held-in r t)) (o .bytes);
       }
 
   pub kept-ours : Kept (stateOf r t) → r .used ≤ heldSize → Ours r t
   kept-ours k u =
       record {
-        sound = subst SoundSession (session-of r t) (k .sound);
+        sound = subst SoundSession (session-in r t) (k .sound);
         stands = ap standing (sym (refusal-of r t)) ∙ k .stands;
         used = u;
-        short = ap frame (sym (held-of r t)) ∙ k .short;
-        bytes = subst Bytes (held-of r t) (k .bytes);
+        short = ap frame (sym (held-in r t)) ∙ k .short;
+        bytes = subst Bytes (held-in r t) (k .bytes);
       }
 
   -- THEOREM: what our own calls make is within the limits of a handle

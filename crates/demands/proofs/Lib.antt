@@ -1,4 +1,3 @@
-pub mod Bytes
 pub mod Applied
 pub mod View
 pub mod Kept

@@ -1,6 +1,6 @@
 -- DEMAND 1, of starting and steps: what each refusal leaves; and a reader that has ended or refused repeats its answer.
 -- Assumes nothing.
-use mathlib.Core.Path.{_≡_, refl, sym, ap, _∙_, subst}
+use mathlib.Core.Path.{_≡_, sym, ap, _∙_, subst}
 use mathlib.Core.List.{List, [], _++_}
 use mathlib.Core.Bool.{true, false}
 use Prim.Native.Nat.{ℕ, _-_}
@@ -23,7 +23,6 @@ use Rattle.table.specs.Memory.{tableSize}
 use Rattle.table.specs.Board.{freshBoard, fits, startOf}
 use Rattle.reader.specs.Refusals.{refusalNumber, standing, named}
 use Rattle.reader.specs.Deliver.{Table, Said, deliver}
-use Rattle.reader.specs.Shapes.{liveOf}
 use Rattle.reader.specs.View.{sessionOf, heldOf, stateOf, Seen, seenOf, seen, sessionIn, heldIn, answerTexts, answerOf, stillOf, readyOf}
 use Rattle.reader.specs.Limits.{withinLimits}
 use Rattle.reader.specs.Calls.{stepAll, Stepping, startAll, Starting}
@@ -34,13 +33,14 @@ use Rattle.reader.specs.declared.StartAnswer.the-variants as started
 use Rattle.reader.specs.declared.Reader.{Reader}
 use Rattle.reader.specs.declared.Stepped.{Stepped}
 use Rattle.reader.specs.declared.Started.{Started}
-use Rattle.reader.proofs.Limits as limits
-use Rattle.reader.proofs.Limits.{within}
+use Rattle.reader.proofs.Kept as limits
+use Rattle.reader.proofs.Kept.{within}
+use Rattle.reader.proofs.Views.{session-in}
 use Rattle.demands.specs.Callers.{Steps}
 use Rattle.demands.specs.Sound.{begin}
 use Rattle.demands.specs.Same.{SameStep, SameStart}
 use Rattle.demands.specs.Refused.{Leaves}
-use Rattle.demands.proofs.View.{refusalIn, endedIn, session-of, ended-of, refusal-of}
+use Rattle.demands.proofs.View.{refusalIn, endedIn, ended-of, refusal-of}
 use Rattle.demands.proofs.Applied.{DeniedStands, deliver-undone, deliver-stands}
 use Rattle.demands.proofs.Kept.{fault-stands, stepping-is}
 use Rattle.demands.proofs.Callers.{any-cuts}
@@ -71,14 +71,18 @@ module _ (r : Reader) (t piece : List ℕ) (s : Stepped) (t′ : List ℕ) (long
   pub refusal-repeats : (r .refusal ≡ 0 → ⊥) → SameStep s (stillOf r (answer.Refused (named (r .refusal)))) t′ t
   refusal-repeats n =
       same-steps s (stillOf r (answer.Refused (named (r .refusal)))) t′ t
-      (h ∙ sym (limits.step-refused r t piece (sym e) refl long (stillOf r (answer.Refused (named (r .refusal)))) (named (r .refusal)) n refl refl))
+      (h ∙ sym (limits.step-refused r t piece e long n))
 
   -- THEOREM: so is an end
   pub end-repeats : r .refusal ≡ 0 → r .ended ≡ true → SameStep s (stillOf r answer.Ended) t′ t
   end-repeats n k =
-      same-steps s (stillOf r answer.Ended) t′ t (h ∙ sym (limits.step-ended r t piece (sym e) refl long (stillOf r answer.Ended) n k refl))
+      same-steps s (stillOf r answer.Ended) t′ t (h ∙ sym (limits.step-ended r t piece e long n k))
 
 -- ---- refusals 1 to 16
+
+-- a reader that has neither ended nor refused
+abbrev liveOf : Reader → List ℕ → State (Session Table)
+liveOf r memory = live (sessionOf (r .line) (r .board) memory) (heldOf r)
 
 -- THEOREM: the table and the handle are as they were, but nothing is held and the refusal stands
 pub refusals-leave : (r : Reader) (t piece : List ℕ) (s : Stepped) (t′ : List ℕ) (x : Refusal) → withinLimits r t ≡ true
@@ -93,7 +97,7 @@ refusals-leave r t piece s t′ x e n k h a =
     let st : stateOf (s .reader) t′ ≡ refusedBy (refusalNumber x) (sessionOf (r .line) (r .board) t)
     = ap (λ (q : Seen). q .step .state) z ∙ l in
     let i : sessionOf (s .reader .line) (s .reader .board) t′ ≡ sessionOf (r .line) (r .board) t
-    = sym (session-of (s .reader) t′) ∙ ap sessionIn st in
+    = sym (session-in (s .reader) t′) ∙ ap sessionIn st in
     record {
       memory = ap (λ (q : Session Table). q .about .memory) i;
       line = ap (λ (q : Session Table). q .line) i;
@@ -174,6 +178,6 @@ not-unfit r t piece s t′ e h a =
     let k : standing 20 ≡ true
     = subst AnswerStood (sym y)
     (step-stood (stateOf r t) piece
-    (ap (λ (q : Session Table). fits (q .about .board) (q .about .memory)) (session-of r t) ∙ w .fitted)
+    (ap (λ (q : Session Table). fits (q .about .board) (q .about .memory)) (session-in r t) ∙ w .fitted)
     (ap standing (refusal-of r t) ∙ w .stands)) in
     never k

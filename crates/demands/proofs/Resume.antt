@@ -26,11 +26,12 @@ use Rattle.reader.specs.View.{sessionOf, heldOf, stateOf, sessionIn}
 use Rattle.reader.specs.Saving.{Saves, Came, restoreAll, Restores}
 use Rattle.reader.specs.declared.Reader.{Reader}
 use Rattle.reader.specs.declared.Restored.{Restored}
+use Rattle.reader.proofs.Views.{session-in}
 use Rattle.demands.specs.Callers.{Steps}
 use Rattle.demands.specs.Sound.{SoundSession, Ours}
 use Rattle.demands.specs.Stopped.{StoppedAt, GoesOn}
-use Rattle.demands.proofs.Bytes.{bytes-none, bytes-append, bytes-right, login-bytes}
-use Rattle.demands.proofs.View.{refusalIn, session-of, refusal-of}
+use Rattle.packet.proofs.Bytes.{bytes-none, bytes-append, bytes-right, login-bytes}
+use Rattle.demands.proofs.View.{refusalIn, refusal-of}
 use Rattle.demands.proofs.Kept.{Kept, kept-ours}
 use Rattle.demands.proofs.Callers.{steps-called, steps-read, steps-ours, unfinished-in}
 use Rattle.demands.proofs.Saved.{ours-saved, comes-back}
@@ -79,7 +80,7 @@ module _ (s₀ : Session Table) (held bs : List ℕ) (es : List (Event Said)) (s
         stopped = ap (λ (x : Run (Session Table) (Event Said)). x .events) one;
         unstopped = ap (λ (x : Run (Session Table) (Event Said)). x .events) two;
         state = same;
-        table = ap (λ (x : Session Table). x .about .memory) (sym (session-of r₁ t₁) ∙ ap sessionIn same ∙ session-of r₂ t₂);
+        table = ap (λ (x : Session Table). x .about .memory) (sym (session-in r₁ t₁) ∙ ap sessionIn same ∙ session-in r₂ t₂);
         refusal = sym (refusal-of r₁ t₁) ∙ ap refusalIn same ∙ refusal-of r₂ t₂;
       }
 

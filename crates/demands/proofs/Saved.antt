@@ -49,11 +49,11 @@ use Rattle.reader.specs.Limits.{withinLimits}
 use Rattle.reader.specs.Saving.{headerOf, saveAll, Saves, lineOf, Came, restoreAll, Restores}
 use Rattle.reader.specs.declared.Reader.{Reader}
 use Rattle.reader.specs.declared.Restored.{Restored}
+use Rattle.reader.proofs.Views.{session-in}
 use Rattle.demands.specs.Same.{SameReader}
 use Rattle.demands.specs.Sound.{begin, SoundSession, Ours}
-use Rattle.demands.proofs.Bytes.{bytes-none, spaces-bytes}
+use Rattle.packet.proofs.Bytes.{bytes-none, spaces-bytes}
 use Rattle.demands.proofs.Kept.{Kept, kept-ours, ours-within}
-use Rattle.demands.proofs.View.{session-of}
 use Rattle.demands.proofs.Names.{saved-same, verdicts-same}
 use Rattle.demands.proofs.Equal.{same-readers}
 
@@ -270,7 +270,7 @@ module _ (bytes t : List ℕ) (q : Restored) (t₁ : List ℕ) (h : Restores byt
 
   came-back : sessionOf (q .reader .line) (q .reader .board) t₁ ≡ sessionOf (lineOf header) (header .board) (restoreOf bytes t .memory)
   unfolding restoreAll
-  came-back = sym (session-of (q .reader) t₁) ∙ ap sessionIn (came-state bytes t q t₁ h)
+  came-back = sym (session-in (q .reader) t₁) ∙ ap sessionIn (came-state bytes t q t₁ h)
 
   header-back : headerOf (q .reader) ≡ header
   unfolding headerKeeps

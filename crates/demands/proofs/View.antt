@@ -9,7 +9,7 @@ use lib.Dec.{eqb}
 use Rattle.packet.specs.Stream.{State, live, ended, refused}
 use Rattle.packet.specs.Session.{Session}
 use Rattle.reader.specs.Deliver.{Table}
-use Rattle.reader.specs.View.{sessionOf, heldOf, stateOf, sessionIn, heldIn}
+use Rattle.reader.specs.View.{sessionOf, heldOf, stateOf}
 use Rattle.reader.specs.declared.Reader.{Reader}
 
 -- ---- what a state has, whichever it is
@@ -30,16 +30,6 @@ module _ (s : Session Table) (held : List ℕ) (n : ℕ) where
   abbrev at : Bool → Bool → State (Session Table)
   at none e = cond none (cond e (ended s held) (live s held)) (refused s held e n)
 
-  session-at : (none e : Bool) → sessionIn (at none e) ≡ s
-  session-at true true = refl
-  session-at true false = refl
-  session-at false e = refl
-
-  held-at : (none e : Bool) → heldIn (at none e) ≡ held
-  held-at true true = refl
-  held-at true false = refl
-  held-at false e = refl
-
   ended-at : (none e : Bool) → endedIn (at none e) ≡ e
   ended-at true true = refl
   ended-at true false = refl
@@ -51,12 +41,6 @@ module _ (s : Session Table) (held : List ℕ) (n : ℕ) where
   refusal-at false e h = refl
 
 module _ (r : Reader) (memory : List ℕ) where
-  pub session-of : sessionIn (stateOf r memory) ≡ sessionOf (r .line) (r .board) memory
-  session-of = session-at (sessionOf (r .line) (r .board) memory) (heldOf r) (r .refusal) (eqb (r .refusal) 0) (r .ended)
-
-  pub held-of : heldIn (stateOf r memory) ≡ heldOf r
-  held-of = held-at (sessionOf (r .line) (r .board) memory) (heldOf r) (r .refusal) (eqb (r .refusal) 0) (r .ended)
-
   pub ended-of : endedIn (stateOf r memory) ≡ r .ended
   ended-of = ended-at (sessionOf (r .line) (r .board) memory) (heldOf r) (r .refusal) (eqb (r .refusal) 0) (r .ended)
 

@@ -24,12 +24,18 @@ pub fn run(s: &[u8], at: usize, n: usize, low: u8, high: u8) -> usize
     k
 }
 
-// Are the n bytes from `at` on all this one?
+// Are the n bytes from `at` on all this one? Without a branch, so that several are compared at once.
 pub fn only(s: &[u8], at: usize, n: usize, byte: u8) -> bool
     requires { ⌜ at + n ≤ length (now s) ⌝ }
     ensures { λ r. ⌜ r ≡ every (within byte byte) (part (now (s .entry)) at n) ⌝ }
 {
-    run(s, at, n, byte, byte) == n
+    let mut same = true;
+    let mut k = 0;
+    while k < n {
+        same = same & (s[at + k] == byte);
+        k += 1;
+    }
+    same
 }
 
 // Printable characters but for the space, one at least, and then spaces alone.
@@ -42,18 +48,4 @@ pub fn is_text(s: &[u8], at: usize, n: usize) -> bool
         return false;
     }
     only(s, at + k, n - k, b' ')
-}
-
-// The same as `only`, without a branch, for bytes that mostly are.
-pub fn all(s: &[u8], at: usize, n: usize, byte: u8) -> bool
-    requires { ⌜ at + n ≤ length (now s) ⌝ }
-    ensures { λ r. ⌜ r ≡ every (within byte byte) (part (now (s .entry)) at n) ⌝ }
-{
-    let mut same = true;
-    let mut k = 0;
-    while k < n {
-        same = same & (s[at + k] == byte);
-        k += 1;
-    }
-    same
 }

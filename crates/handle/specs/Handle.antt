@@ -9,6 +9,8 @@ use Rattle.field.specs.Bytes.{part, overlay, bytesBe}
 use Rattle.message.specs.Layout.{Value, num, raw, numberAt, bytesAt, binary, bytes, Row, row, values, keepsAll, bytesFor}
 use Rattle.message.specs.Letters.{anything}
 use Rattle.packet.specs.Frame.{heldSize}
+use Rattle.packet.specs.declared.Line.{Line}
+use Rattle.table.specs.declared.Board.{Board}
 use Rattle.handle.specs.declared.Head.{Head}
 
 abbrev pub headSize : ℕ
@@ -102,6 +104,13 @@ handleBytes h held = headBytes h ++ held
 -- the places of held bytes of a handle
 abbrev pub placesIn : List ℕ → List ℕ
 placesIn bs = part bs headSize heldSize
+
+-- a head with another line, or another board
+abbrev pub withLine : Line → Head → Head
+withLine l h = record { line = l; board = h .board; ended = h .ended; refusal = h .refusal; used = h .used }
+
+abbrev pub withBoard : Board → Head → Head
+withBoard b h = record { line = h .line; board = b; ended = h .ended; refusal = h .refusal; used = h .used }
 
 -- ---- one field of a handle, by its row in the layout
 

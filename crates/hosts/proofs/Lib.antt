@@ -1,4 +1,3 @@
-pub mod Told
 pub mod Laid
 pub mod Runs
 pub mod Resume

@@ -25,8 +25,9 @@ use Rattle.reader.specs.View.{sessionOf, heldOf, stateOf, heldIn, readyOf}
 use Rattle.reader.specs.Saving as readers
 use Rattle.reader.specs.Saving.{headerOf, Written, writtenOf, writtenBy, saveAll, restoreNumber, lineOf, restoreAll}
 use Rattle.reader.specs.declared.Restored.{Restored}
-use Rattle.nelqubat.specs.Host.{readerIn, headIn, Left, left, unheld, restoredAs, restoreHost, savedNumber, savedAs, saveHost, HostSaves, HostRestores}
-use Rattle.nelqubat.proofs.Heads.{head-in}
+use Rattle.reader.specs.Handles.{readerIn, headIn, Left, left}
+use Rattle.reader.proofs.Views.{head-in}
+use Rattle.nelqubat.specs.Host.{unheld, restoredAs, restoreHost, savedNumber, savedAs, saveHost, HostSaves, HostRestores}
 use Rattle.demands.specs.Stopped.{StoppedAt, GoesOn}
 use Rattle.demands.proofs.Kept.{ours-within}
 use Rattle.demands.proofs.Saved.{ours-saved, comes-back}

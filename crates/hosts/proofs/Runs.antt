@@ -8,36 +8,39 @@ use Prim.Native.Nat.{ℕ, _+_, _-_, _*_, _%_, _≤_}
 use native.Mathlib.Omega.{arith}
 use borrow.Author.Tests.{eqb-true, eq-eqb}
 use lib.Dec.{eqb}
-use lib.ListN.{length, drop, length-replicate}
-use Rattle.field.specs.Bytes.{part, overlay, Bytes}
-use Rattle.packet.specs.Frame.{Framed, short, badLength, packet, frame, heldSize}
+use lib.ListN.{length, drop}
+use Rattle.field.specs.Bytes.{Bytes}
+use Rattle.packet.specs.Frame.{Framed, short, badLength, packet, frame}
 use Rattle.packet.specs.Stream as stream
 use Rattle.packet.specs.Stream.{State, live, ended, refused, accept, finish, refuse, stepJudged, stepFramed, Called, Unfinished, NothingLeft, eventsOf, reading, stepOf}
 use Rattle.packet.specs.Line.{freshLine}
 use Rattle.packet.specs.Session as packets
 use Rattle.packet.specs.Session.{Session, Event, soupBinTCP}
 use Rattle.packet.proofs.Rules.{both, never}
+use Rattle.packet.proofs.Frame.{short-fits}
 use Rattle.packet.proofs.Step as packet-steps
 use Rattle.packet.proofs.Step.{any-caller}
 use Rattle.table.specs.Board.{startOf}
-use Rattle.handle.specs.Handle.{headSize, handleSize, headOf}
+use Rattle.handle.specs.Handle.{handleSize, headOf}
 use Rattle.record.specs.Places.{recordSize}
+use Rattle.reader.specs.Refusals.{standing}
 use Rattle.reader.specs.Deliver.{Table, Said, deliver}
-use Rattle.reader.specs.View.{sessionOf, heldOf, stateOf, Seen, seen, memoryIn, heldIn, readyOf}
-use Rattle.reader.specs.Calls.{freshOn, verdictNumber, startAll, Starting, stepAll, placesBy, placesAfter}
+use Rattle.reader.specs.View.{sessionOf, heldOf, stateOf, Seen, seen, heldIn, readyOf}
+use Rattle.reader.specs.Calls.{freshOn, verdictNumber, startAll, Starting, stepAll}
 use Rattle.reader.specs.declared.Started.{Started}
 use Rattle.reader.specs.declared.StartAnswer.the-variants.{Ready}
-use Rattle.nelqubat.specs.Host.{readerIn, handleBytes, noHeld, headIn, Left, left, unheld, startedAs, startHost, Gone, goneTo, movedBy, toldEvent, told, Stepped, hostStepped, steppedAs, stepHost, HostSteps, HostStarts}
+use Rattle.reader.specs.Handles.{readerIn, Left, left, toldEvent, told, takenIn, kindIn, answerFor, movedBy, Stepped, hostStepped, stepHost, HostSteps}
+use Rattle.reader.proofs.Back.{StandsSome, Own, all-fits, handle-on, state-on, used-on, answer-on, taken-on}
+use Rattle.nelqubat.specs.Host.{unheld, startedAs, startHost, HostStarts}
 use Rattle.demands.specs.Sound.{begin}
-use Rattle.demands.proofs.Bytes.{bytes-left}
-use Rattle.demands.proofs.Kept.{Kept, ours-kept, ours-within, step-kept}
+use Rattle.packet.proofs.Bytes.{bytes-left}
+use Rattle.demands.proofs.Kept.{Kept, ours-kept, kept-ours, ours-within, step-kept}
 use Rattle.demands.proofs.View.{endedIn, refusalIn, ended-of, refusal-of}
 use Rattle.demands.proofs.Callers as callers
 use Rattle.demands.proofs.Callers.{next-bytes}
-use Rattle.hosts.specs.Events.{takenIn, kindIn, eventsIn, eventsFor}
+use Rattle.hosts.specs.Events.{eventsIn}
 use Rattle.hosts.specs.Runs.{HostRun, stop, step, HostDone}
-use Rattle.hosts.proofs.Told.{stands-low, AnswerFits, answer-back, step-fits}
-use Rattle.hosts.proofs.Laid.{StandsSome, step-some, reader-some, HostOurs, laid-state, laid-ours, step-places, own-long, own-used, own-holds}
+use Rattle.hosts.proofs.Laid.{stands-low, HostOurs, host-own, unheldBytes, unheld-state, unheld-ours}
 
 -- ---- one step
 
@@ -58,7 +61,31 @@ event-byte packets.heartbeat memory n = omega arith
 event-byte packets.end memory n = omega arith
 event-byte packets.skipped memory n = omega arith
 
-low-byte : (a : stream.Answer (Event Said)) (memory : List ℕ) (n : ℕ) → AnswerFits a → (told a memory .number + n * 65_536) % 256 ≡ 20 → ⊥
+abbrev AnswerStands : stream.Answer (Event Said) → Type 0
+AnswerStands (stream.Event e) = Unit
+AnswerStands stream.More = Unit
+AnswerStands stream.Ended = Unit
+AnswerStands (stream.Refused n) = standing n ≡ true
+
+judged-stands : (n : ℕ) (v : stream.Verdict (Session Table) (Event Said)) → Kept (stepJudged n v .state) → AnswerStands (stepJudged n v .answer)
+judged-stands n (accept e s) k = tt
+judged-stands n (finish e s) k = tt
+judged-stands n (refuse m s) k = k .stands
+
+framed-stands : (s : Session Table) (held piece : List ℕ) (f : Framed)
+    → (let x = stepFramed (soupBinTCP deliver) s held piece f in Kept (x .state) → AnswerStands (x .answer))
+framed-stands s held piece short k = tt
+framed-stands s held piece (badLength r) k = k .stands
+framed-stands s held piece (packet l b r) k = judged-stands (length piece - length r) (soupBinTCP deliver s l b) k
+
+step-stands : (st : State (Session Table)) (piece : List ℕ)
+    → (let x = stepOf (soupBinTCP deliver) st piece in Kept (x .state) → AnswerStands (x .answer))
+unfolding stepOf
+step-stands (live s held) piece k = framed-stands s held piece (frame (held ++ piece)) k
+step-stands (ended s held) piece k = tt
+step-stands (refused s held e n) piece k = k .stands
+
+low-byte : (a : stream.Answer (Event Said)) (memory : List ℕ) (n : ℕ) → AnswerStands a → (told a memory .number + n * 65_536) % 256 ≡ 20 → ⊥
 unfolding told
 low-byte (stream.Event x) memory n f e = omega (arith, event-byte x memory n)
 low-byte stream.More memory n f e = omega arith
@@ -75,12 +102,12 @@ Stops (stream.Refused n) st = eqb (refusalIn st) 0 ≡ false
 judged-stops : (n : ℕ) (v : stream.Verdict (Session Table) (Event Said)) → StandsSome (stepJudged n v .state) → Stops (stepJudged n v .answer) (stepJudged n v .state)
 judged-stops n (accept e s) z = tt
 judged-stops n (finish e s) z = tt
-judged-stops n (refuse k s) z = z .1
+judged-stops n (refuse k s) z = z
 
 framed-stops : (s : Session Table) (held piece : List ℕ) (f : Framed)
     → (let x = stepFramed (soupBinTCP deliver) s held piece f in StandsSome (x .state) → Stops (x .answer) (x .state))
 framed-stops s held piece short z = tt
-framed-stops s held piece (badLength r) z = z .1
+framed-stops s held piece (badLength r) z = z
 framed-stops s held piece (packet l b r) z = judged-stops (length piece - length r) (soupBinTCP deliver s l b) z
 
 step-stops : (st : State (Session Table)) (piece : List ℕ)
@@ -88,7 +115,7 @@ step-stops : (st : State (Session Table)) (piece : List ℕ)
 unfolding stepOf
 step-stops (live s held) piece z = framed-stops s held piece (frame (held ++ piece)) z
 step-stops (ended s held) piece z = refl
-step-stops (refused s held e n) piece z = z .1
+step-stops (refused s held e n) piece z = z
 
 event-kind : (e : Event Said) (memory : List ℕ) (n : ℕ) → kindIn (toldEvent e memory .number + n * 65_536) ≤ 6
 unfolding toldEvent
@@ -115,56 +142,48 @@ module _ (handle table piece event : List ℕ) (o : HostOurs handle table) (b : 
   abbrev went : stream.Stepped (Session Table) (Event Said)
   went = stepOf (soupBinTCP deliver) before piece
 
-  abbrev places : List ℕ
-  places = part handle headSize heldSize
-
-  abbrev places′ : List ℕ
-  places′ = placesBy (went .answer) places (overlay places (length (heldIn before)) (part piece 0 (went .taken)))
+  own : Own handle
+  own = host-own handle table o
 
   all : stepAll (readerIn handle) table piece ≡ seen went
   unfolding stepAll
   all = rw (ours-within (readerIn handle) table (o .ours))
 
-  moved : movedBy handle table piece ≡ goneTo (seen went) places′
-  unfolding movedBy
-  moved =
-      ap (λ (x : Seen). goneTo x (placesAfter places (headOf handle .used) piece x)) all
-      ∙ ap (λ (n : ℕ). goneTo (seen went) (placesAfter places n piece (seen went))) (own-used handle table o)
-
   kept : Kept (went .state)
   kept = step-kept before piece b (ours-kept (readerIn handle) table (o .ours))
 
   some : StandsSome (went .state)
-  some = step-some before piece (reader-some (readerIn handle) table)
+  some = subst (λ (x : Seen). StandsSome (x .step .state)) all (all-fits handle table piece own b .some)
 
   module _ (long : length event ≡ recordSize) where
-    is : hostStepped a handle′ table′ event′ ≡ steppedAs (goneTo (seen went) places′) event
-    unfolding stepHost
-    is = (rw (eq-eqb (length event) recordSize long, o .handle-is) at s) ∙ ap (λ (g : Gone). steppedAs g event) moved
+    number : a ≡ told (went .answer) event .number + went .taken * 65_536
+    unfolding stepHost movedBy
+    number =
+        ap (λ (q : Stepped). q .number) (rw (eq-eqb (length event) recordSize long, o .handle-is) at s)
+        ∙ ap (λ (x : Seen). told (x .step .answer) event .number + x .step .taken * 65_536) all
 
     pub step-went : Went a handle′ table′ event′ went
     step-went =
-        let p = step-places piece places (own-long handle table o) before (own-holds handle table o) in
-        let x : List ℕ = handleBytes (headIn (went .state) (length (heldIn (went .state)))) places′ in
-        let h : handle′ ≡ x = ap (λ (q : Stepped). q .handle) is in
-        let t : table′ ≡ memoryIn (went .state) = ap (λ (q : Stepped). q .table) is in
-        let back = answer-back event long (went .taken) (went .answer) (step-fits before piece b (ours-kept (readerIn handle) table (o .ours))) in
+        let st : stateOf (readerIn handle′) table′ ≡ went .state
+        = state-on handle table piece event handle′ table′ event′ a own b s long ∙ ap (λ (x : Seen). x .step .state) all in
+        let u : readerIn handle′ .used ≡ length (heldIn (went .state))
+        = used-on handle table piece event handle′ table′ event′ a own b s long ∙ ap (λ (x : Seen). x .used) all in
         record {
-          ours =
-              subst (λ (y : List ℕ). HostOurs y table′) (sym h)
-              (subst (HostOurs x) (sym t) (laid-ours (went .state) kept some places′ (p .long) (p .holds)));
-          state =
-              ap (λ (y : List ℕ). stateOf (readerIn y) table′) h ∙ ap (stateOf (readerIn x)) t
-              ∙ laid-state (went .state) kept some places′ (p .long) (p .holds);
-          events = (λ i. eventsIn (is i .number) (is i .event)) ∙ back .events;
-          taken = ap (λ (q : Stepped). takenIn (q .number)) is ∙ back .taken;
+          ours = record {
+            handle-is = handle-on handle table piece event handle′ table′ event′ a own b s long;
+            ours =
+                kept-ours (readerIn handle′) table′ (subst Kept (sym st) kept)
+                (omega (arith, u, short-fits (heldIn (went .state)) (kept .short)));
+          };
+          state = st;
+          events = ap eventsOf (answer-on handle table piece event handle′ table′ event′ a own b s long ∙ ap (λ (x : Seen). x .step .answer) all);
+          taken = taken-on handle table piece event handle′ table′ event′ a own b s long ∙ ap (λ (x : Seen). x .step .taken) all;
         }
 
     -- THEOREM: a step of what is ours, with event memory of its length, is not refused as 20
     pub not-20 : a % 256 ≡ 20 → ⊥
     not-20 e =
-        low-byte (went .answer) event (went .taken) (step-fits before piece b (ours-kept (readerIn handle) table (o .ours)))
-        (ap (λ (q : Stepped). q .number % 256) (sym is) ∙ e)
+        low-byte (went .answer) event (went .taken) (step-stands before piece kept) (ap (λ (n : ℕ). n % 256) (sym number) ∙ e)
 
     -- THEOREM: IT GETS ON. By its answer, a step of a handle that has neither ended nor refused takes a byte at least of a piece that is not empty.
     pub gets-on : (headOf handle .refusal ≡ 0) × (headOf handle .ended ≡ false) → 1 ≤ length piece → 1 ≤ takenIn a
@@ -181,7 +200,7 @@ module _ (handle table piece event : List ℕ) (o : HostOurs handle table) (b : 
     says-done k rest =
         by
         (told-stops (went .answer) event (went .taken) (went .state)
-        (subst (λ (n : ℕ). 7 ≤ kindIn n) (ap (λ (q : Stepped). q .number) is) k) (step-stops before piece some))
+        (subst (λ (n : ℕ). 7 ≤ kindIn n) number k) (step-stops before piece some))
       where
         w : Went a handle′ table′ event′ went
         w = step-went
@@ -209,7 +228,7 @@ module _ (handle table piece event : List ℕ) (o : HostOurs handle table) (b : 
       → Called (soupBinTCP deliver) before (piece ++ more) (eventsIn a event′ ++ es) last rest
 
   pub one-called : (more : List ℕ) (es : List (Event Said)) (last : State (Session Table)) (rest : List ℕ) → Goes more es last rest
-  unfolding eventsFor
+  unfolding answerFor
   one-called more es last rest c = by (eqb (length event) recordSize) refl
     where
       by : (y : Bool) → eqb (length event) recordSize ≡ y → Called (soupBinTCP deliver) before (piece ++ more) (eventsIn a event′ ++ es) last rest
@@ -274,13 +293,11 @@ pub record Fresh (handle table : List ℕ) (s : Session Table) : Type 0 where
 pub unheld-fresh : (s : Session Table) → Kept (live s []) → (a n : ℕ) (handle table : List ℕ) → left a handle table ≡ unheld n (live s []) 0
     → Fresh handle table s
 unheld-fresh s k a n handle table e =
-    let blank : length noHeld ≡ heldSize = length-replicate {A = ℕ} heldSize 0 in
-    let x : List ℕ = handleBytes (headIn (live s []) 0) noHeld in
-    let h : handle ≡ x = ap (λ (q : Left). q .handle) e in
+    let h : handle ≡ unheldBytes s k = ap (λ (q : Left). q .handle) e in
     let t : table ≡ s .about .memory = ap (λ (q : Left). q .table) e in
     record {
-      ours = subst (λ (y : List ℕ). HostOurs y table) (sym h) (subst (HostOurs x) (sym t) (laid-ours (live s []) k tt noHeld blank refl));
-      state = ap (λ (y : List ℕ). stateOf (readerIn y) table) h ∙ ap (stateOf (readerIn x)) t ∙ laid-state (live s []) k tt noHeld blank refl;
+      ours = subst (λ (y : List ℕ). HostOurs y table) (sym h) (subst (HostOurs (unheldBytes s k)) (sym t) (unheld-ours s k));
+      state = (λ i. stateOf (readerIn (h i)) (t i)) ∙ unheld-state s k;
     }
 
 -- ---- from a start

@@ -13,8 +13,9 @@ use Rattle.packet.specs.Line.{packetOf}
 use Rattle.packet.specs.Session.{Session, heartbeat, soupBinTCP}
 use Rattle.record.specs.Places.{recordSize}
 use Rattle.reader.specs.Deliver.{Table, deliver}
-use Rattle.nelqubat.specs.Host.{HostStarts, HostSteps}
-use Rattle.hosts.specs.Events.{takenIn, eventsIn}
+use Rattle.reader.specs.Handles.{takenIn, HostSteps}
+use Rattle.nelqubat.specs.Host.{HostStarts}
+use Rattle.hosts.specs.Events.{eventsIn}
 use Rattle.hosts.proofs.Runs.{started, step-went}
 
 abbrev beat : List ℕ

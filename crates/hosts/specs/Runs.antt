@@ -9,8 +9,8 @@ use lib.ListN.{drop}
 use Rattle.packet.specs.Session.{Event}
 use Rattle.handle.specs.Handle.{headOf}
 use Rattle.reader.specs.Deliver.{Said}
-use Rattle.nelqubat.specs.Host.{HostSteps}
-use Rattle.hosts.specs.Events.{takenIn, eventsIn}
+use Rattle.reader.specs.Handles.{takenIn, HostSteps}
+use Rattle.hosts.specs.Events.{eventsIn}
 
 -- ---- A RUN
 -- `HostRun handle table bs es handle′ table′ rest`: of the bytes `bs`, given to a handle by steps, `rest` are still to be given; by its answers and

@@ -1,6 +1,7 @@
 // Demand 3 for a host in C, as theorems over the promises of its calls: see specs/ and proofs/. The code here is such a host's own calls, so that
 // what the theorems ask of a call is what the library promises.
-ghost use Rattle.nelqubat.specs.Host.{HostStarts, HostSteps, HostSaves, HostRestores};
+ghost use Rattle.reader.specs.Handles.{HostSteps};
+ghost use Rattle.nelqubat.specs.Host.{HostStarts, HostSaves, HostRestores};
 
 pub fn start(handle: &mut [u8], table: &mut [u8]) -> u32
     ensures { λ r. ⌜ HostStarts (now (handle .entry)) (now (table .entry)) r (now (handle .exit)) (now (table .exit)) ⌝ }

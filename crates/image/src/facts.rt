@@ -102,7 +102,7 @@ pub fn only_facts(image: &[u8]) -> bool
     ensures { λ r. ⌜ r ≡ factsKeep (now (image .entry)) ⌝ }
 {
     (field::read1(image, 24) <= 1)
-        & text::all(
+        & text::only(
             image,
             block::HEAD_SIZE + FACTS_SIZE,
             block::BODY_SIZE - FACTS_SIZE,

@@ -72,7 +72,7 @@ fn slots_keep(image: &[u8], count: usize, rows: usize) -> bool
     }
     // The slots that no row takes end where the last block's check begins.
     let spare = (count - 1) * block::BODY_SIZE - rows * row::ROW_SIZE;
-    text::all(image, count * block::BLOCK_SIZE - 2 - spare, spare, 0)
+    text::only(image, count * block::BLOCK_SIZE - 2 - spare, spare, 0)
 }
 
 fn contents_keep(image: &[u8], count: usize, h: Header) -> bool

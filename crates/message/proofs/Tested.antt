@@ -3,7 +3,8 @@
 use mathlib.Core.Path.{_≡_, refl, sym, ap, _∙_}
 use mathlib.Core.Bool.{Bool, true, false, _&&_, cond, not, and-true}
 use mathlib.Core.List.{List, [], _∷_}
-use Prim.Native.Nat.{ℕ, suc, _+_, _-_, _≤_, _<_}
+use Prim.Native.Nat.{ℕ, suc, _+_, _≤_, _<_}
+use native.Mathlib.Decide.{ℕ-discrete}
 use native.Mathlib.Omega.{arith}
 use borrow.Author.Tests.{eq-eqb, ne-eqb, le-leb, lt-leb, not-true, not-false}
 use lib.Dec.{eqb, leb}
@@ -11,7 +12,6 @@ use lib.ListN.{length, getD}
 use Rattle.field.specs.Bytes.{part, be}
 use Rattle.field.specs.Limits.{timeInRange, numberInRange, priceInRange}
 use Rattle.field.specs.Text.{within, isText}
-use Rattle.field.proofs.Parts.{part-all}
 use Rattle.message.specs.Layout.{Value, numberAt, values, keepsAll}
 use Rattle.message.specs.Letters.{Content, unlisted, letters, letterIn, listed, conditions, eventCodes, optionTypes, closings, tradables, variations, states, entryRows, entrySize, endOfReplayRows, endOfReplayOf}
 use Rattle.message.specs.declared.EndOfReplay.{EndOfReplay}
@@ -191,6 +191,17 @@ rare-last c n1 n2 n3 q =
     no : {n : ℕ} {A : Type 0} → suc n ≡ 0 → A
     no z = absurd (omega arith)
 
+-- their lengths
+pub rare-size : (k : ℕ) {c : ℕ} → c ≡ k → letterIn letters k .size ≡ letterIn letters c .size
+rare-size k e = ap (λ (x : ℕ). letterIn letters x .size) (sym e)
+
+pub rare-none : (c : ℕ) → (c ≡ 83 → ⊥) → (c ≡ 109 → ⊥) → (c ≡ 72 → ⊥) → (c ≡ 77 → ⊥) → quoteLength c ≡ 0 → 0 ≡ letterIn letters c .size
+rare-none c n1 n2 n3 n4 q = by (ℕ-discrete (letterIn letters c .size) 0)
+  where
+    by : Dec (letterIn letters c .size ≡ 0) → 0 ≡ letterIn letters c .size
+    by (yes e) = sym e
+    by (no n) = absurd (n4 (rare-last c n1 n2 n3 q n))
+
 -- the fields of each, where they lie
 pub entry-tested : (bs : List ℕ) (symbol date strike kind underlying marks : ℕ) {a b d e f g h k l n : Bool} {y m z t o w v : ℕ} → a ≡ isText (part bs symbol 8)
     → y ≡ be (part bs date 1) → b ≡ within 0 99 y → m ≡ be (part bs (date + 1) 1) → d ≡ within 1 12 m → z ≡ be (part bs (date + 2) 1) → e ≡ within 1 31 z
@@ -246,8 +257,3 @@ pub test-some : (bs : List ℕ) {r : ℕ} → (length bs ≡ 0 → ⊥) → r �
 unfolding readOf readAs bytesRead
 test-some [] h p = absurd (h refl)
 test-some (c ∷ bs) h p = p
-
-pub test-whole : (bs : List ℕ) {r : ℕ} → (length bs ≡ 0 → ⊥) → r ≡ tested (readAs (letterIn letters (getD bs 0 0)) (part bs 0 (length bs - 0))) → r ≡ tested (readOf bs)
-test-whole bs h p =
-    let e : length bs - 0 ≡ length bs = omega arith in
-    test-some bs h (p ∙ ap (λ (l : List ℕ). tested (readAs (letterIn letters (getD bs 0 0)) l)) (rw e (part-all bs)))

@@ -26,12 +26,12 @@ pub fn quote_length(letter: u8) -> usize
     ensures { λ r. ⌜ r ≡ quoteLength letter ⌝ }
 {
     match letter {
-        b'q' => 36,
-        b'Q' => 56,
-        b'b' => 26,
-        b'a' => 26,
-        b'B' => 36,
-        b'A' => 36,
+        b'q' => lengths::SHORT_QUOTE,
+        b'Q' => lengths::LONG_QUOTE,
+        b'b' => lengths::SHORT_SIDE,
+        b'a' => lengths::SHORT_SIDE,
+        b'B' => lengths::LONG_SIDE,
+        b'A' => lengths::LONG_SIDE,
         _ => 0,
     }
 }
@@ -86,12 +86,26 @@ fn fields_keep(letter: u8, bytes: &[u8]) -> bool
     }
 }
 
+// The length of a letter that is no quote's, 0 for one that is not listed.
+fn rare_length(letter: u8) -> usize
+    requires { ⌜ quoteLength letter ≡ 0 ⌝ }
+    ensures { λ r. ⌜ r ≡ letterIn letters letter .size ⌝ }
+{
+    match letter {
+        b'S' => lengths::SYSTEM_EVENT,
+        b'm' => lengths::DIRECTORY,
+        b'H' => lengths::TRADING_ACTION,
+        b'M' => lengths::END_OF_REPLAY,
+        _ => 0,
+    }
+}
+
 // Bytes whose letter is no quote's.
 pub fn rarer(letter: u8, bytes: &[u8]) -> u32
     requires { ⌜ quoteLength letter ≡ 0 ⌝ }
     ensures { λ r. ⌜ r ≡ tested (readAs (letterIn letters letter) (now (bytes .entry))) ⌝ }
 {
-    let size = lengths::length_of(letter);
+    let size = rare_length(letter);
     if size == 0 {
         return 10;
     }
@@ -114,8 +128,7 @@ pub fn message(bytes: &[u8]) -> u32
     let letter = bytes[0];
     let size = quote_length(letter);
     if size == 0 {
-        let n = bytes.len();
-        return rarer(letter, &bytes[0..n]);
+        return rarer(letter, bytes);
     }
     quote(letter, size, bytes)
 }

@@ -1,49 +1,37 @@
 -- The ways through the calls: a law for each.
 -- Assumes nothing.
 use mathlib.Core.Path.{_≡_, refl, sym, ap, _∙_, subst}
-use mathlib.Core.Bool.{Bool, true, false, not, cond, _&&_}
-use mathlib.Core.List.{List, [], _++_}
+use mathlib.Core.Bool.{Bool, true, false, not, cond}
+use mathlib.Core.List.{List, []}
 use Prim.Native.Nat.{ℕ, _+_, _*_, _≤_, _<_}
 use native.Mathlib.Omega.{arith}
-use borrow.Author.Tests.{eqb-true, eq-eqb, ne-eqb, le-leb, lt-leb, leb-true}
+use borrow.Author.Tests.{eq-eqb, ne-eqb, le-leb, lt-leb, leb-true}
 use lib.Dec.{eqb, leb}
 use lib.ListN.{length, drop, take, replicate, length-replicate}
 use lib.Seq.{length-take-le, take-at}
-use Rattle.field.specs.Bytes.{part, overlay, bytesBe}
+use Rattle.field.specs.Bytes.{part, overlay}
 use Rattle.field.specs.Limits.{numberInRange}
-use Rattle.field.proofs.Parts.{part-length, part-whole, overlay-none, overlay-whole, overlay-next}
-use Rattle.field.proofs.Numbers.{digits-length}
+use Rattle.field.proofs.Parts.{overlay-none}
 use Rattle.field.proofs.Bools.{both-left, both-right}
-use Rattle.packet.specs.Stream as stream
-use Rattle.packet.specs.Stream.{State, stepOf}
-use Rattle.packet.specs.Session.{Session, Event, soupBinTCP}
 use Rattle.packet.specs.Frame.{heldSize}
-use Rattle.packet.proofs.Rules.{and-both, not-call, not-not-call, never}
-use Rattle.packet.proofs.Step.{step-most}
-use Rattle.handle.specs.Handle.{headSize, handleSize, isHandle, headOf, headBytes}
+use Rattle.packet.proofs.Rules.{and-both, not-call, not-not-call}
+use Rattle.handle.specs.Handle.{handleSize, isHandle, headOf, handleBytes}
 use Rattle.handle.specs.declared.Head.{Head}
 use Rattle.handle.proofs.Rounds.{HeadFits, handle-length}
-use Rattle.record.specs.Places.{recordSize}
-use Rattle.record.specs.Record.{Answered, answered, recordBytes}
-use Rattle.reader.specs.Deliver.{Table, Said, deliver}
+use Rattle.record.specs.Record.{answered}
 use Rattle.reader.specs.Refusals.{refusalNumber}
-use Rattle.reader.specs.View.{Seen, sessionOf, readerWith, headPart, heldOf, stateAt, stateOf, seenOf, seen, eventOf, answerOf}
-use Rattle.reader.specs.Limits.{withinLimits, lentWithin}
-use Rattle.reader.specs.Calls.{Begun, begunOf, startAll, Starting, startNumber, Lent, lentOf, lentBy, lentAll, LentStepping, stepAll, unfit}
+use Rattle.reader.specs.View.{sessionOf, readerWith, headPart, heldOf, stateAt, stateOf}
+use Rattle.reader.specs.Limits.{withinLimits}
+use Rattle.reader.specs.Calls.{Begun, startAll, Starting, startNumber}
 use Rattle.reader.specs.Saving.{Came, restoreNumber, Restores, restoreAll, headerOf, Written, writtenOf, writtenBy, Saves, saveAll}
-use Rattle.reader.proofs.Lent.{lent-is, limits-of}
+use Rattle.reader.specs.Handles.{readerIn, hostWithin, headIn, left}
 use Rattle.reader.specs.declared.Reader.{Reader}
-use Rattle.reader.specs.declared.Moved.{Moved}
 use Rattle.reader.specs.declared.Started.{Started}
 use Rattle.reader.specs.declared.Restored.{Restored}
 use Rattle.reader.specs.declared.Refusal.{Refusal}
-use Rattle.reader.specs.declared.Texts.{Texts}
-use Rattle.reader.specs.declared.Event as code
-use Rattle.reader.specs.declared.Event.the-variants as event
-use Rattle.reader.specs.declared.StepAnswer.{StepAnswer}
-use Rattle.reader.specs.declared.StepAnswer.the-variants as answer
 use Rattle.reader.specs.declared.StartAnswer.{StartAnswer}
 use Rattle.reader.specs.declared.StartAnswer.the-variants as started
+use Rattle.reader.proofs.Views.{head-in, memory-in, reader-back}
 use Rattle.block.specs.Block.{blockSize}
 use Rattle.image.specs.Header as headers
 use Rattle.image.specs.Save as images
@@ -61,14 +49,11 @@ use Rattle.table.specs.declared.Found.the-variants.{At, Nothing}
 use Rattle.table.proofs.Search.{found}
 use Rattle.table.proofs.Ways.{rows-fitting}
 use Rattle.table.specs.Board.{fits}
-use Rattle.message.specs.declared.Message.{Message}
 use Rattle.listing.specs.Lines.{lineIn, lineSize, endingOf, lineOf, lineWith, noLine, shownOf}
 use Rattle.listing.specs.declared.Shown.the-variants as shown
 use Rattle.listing.specs.declared.Text.{Text}
 use Rattle.listing.specs.declared.Ending.{Ending}
-use Rattle.nelqubat.specs.Host.{readerIn, handleBytes, noHeld, headIn, left, unheld, startedAs, startHost, StartsOn, restoredAs, restoreHost, RestoresOn, loginBytes, toldEvent, told, Gone, goneTo, movedBy, movedOf, Follows, hostStepped, steppedAs, stepHost, savedNumber, savedAs, SavedFits, saveHost, lineTo, shownTo, hostWithin, lineHost, FoundFits, foundNumber, findHost}
-use Rattle.nelqubat.proofs.Heads.{head-in, memory-in, put-over}
-use Rattle.nelqubat.proofs.Rounds.{reader-back}
+use Rattle.nelqubat.specs.Host.{noHeld, unheld, startedAs, startHost, StartsOn, restoredAs, restoreHost, RestoresOn, savedNumber, savedAs, SavedFits, saveHost, lineTo, shownTo, lineHost, FoundFits, foundNumber, findHost}
 
 -- ---- a reader that holds nothing, over a handle
 
@@ -124,79 +109,6 @@ module _ (handle table : List ℕ) where
   unfolding restoreHost
   restore-goes image handle′ table′ r h l e f g i =
       rw (eq-eqb (length handle) handleSize l, i) (unheld-as (r .reader) table′ handle′ h (restoreNumber (r .verdict)) f g ∙ ap restoredAs e)
-
--- ---- a step of a handle where it lies
-
-abbrev goneWith : Lent → Gone
-goneWith l = goneTo (l .call) (l .held)
-
--- the places behind the head are as many as a handle has
-as-reader : (handle table piece : List ℕ) (h : Head) → length handle ≡ handleSize → let held = part handle headSize heldSize in
-    lentBy held (h .used) piece (lentAll h held table piece) ≡ lentBy held (h .used) piece (stepAll (readerWith h held) table piece)
-as-reader handle table piece h l =
-    let held = part handle headSize heldSize in
-    ap (lentBy held (h .used) piece) (lent-is h held table piece (part-length handle headSize heldSize (omega (arith, l))))
-
-pub moves : (handle table piece : List ℕ) (h : Head) (m : Moved) (held first handle′ table′ : List ℕ) → length handle ≡ handleSize → length held ≡ heldSize
-    → length (m .head .line .session) ≡ 10 → h ≡ headOf handle → LentStepping h (part handle headSize heldSize) table piece m held table′
-    → first ≡ overlay handle headSize held → handle′ ≡ overlay first 0 (headBytes (m .head))
-    → movedOf m handle′ table′ ≡ movedBy handle table piece
-unfolding movedBy
-moves handle table piece h m held first handle′ table′ l k ten e f g i =
-    let r = readerWith (m .head) held in
-    ap (λ (x : List ℕ). movedOf m x table′)
-    (put-over (m .head) handle held first handle′ ten l k g i ∙ ap (λ (x : Head). handleBytes x held) (sym (head-in r table′)))
-    ∙ ap (movedOf m (handleBytes (headIn (stateOf r table′) (r .used)) held)) (sym (memory-in r table′))
-    ∙ ap goneWith (rw e at (f ∙ as-reader handle table piece h l))
-
-pub moves-on : (handle table piece : List ℕ) (h : Head) (m : Moved) (held first handle′ table′ : List ℕ) → length handle ≡ handleSize → length held ≡ heldSize
-    → HeadFits (m .head) → h ≡ headOf handle → LentStepping h (part handle headSize heldSize) table piece m held table′
-    → first ≡ overlay handle headSize held → handle′ ≡ overlay first 0 (headBytes (m .head))
-    → Follows handle table piece handle′ table′
-moves-on handle table piece h m held first handle′ table′ l k fits e f g i =
-    ap (λ (x : List ℕ). stateOf (readerIn x) table′) (put-over (m .head) handle held first handle′ (fits .session) l k g i)
-    ∙ ap (λ (r : Reader). stateOf r table′) (reader-back (m .head) held fits k)
-    ∙ ap (λ (x : Lent). x .call .step .state) (f ∙ as-reader handle table piece h l)
-    ∙ ap (λ (x : Head). stepAll (readerWith x (part handle headSize heldSize)) table piece .step .state) e
-
--- a step takes no more than a packet
-step-few : (r : Reader) (memory piece : List ℕ) → stepAll r memory piece .step .taken ≤ heldSize
-unfolding stepAll
-step-few r memory piece = by (withinLimits r memory)
-  where
-    by : (b : Bool) → cond b (seen (stepOf (soupBinTCP deliver) (stateOf r memory) piece)) (unfit r memory) .step .taken ≤ heldSize
-    by true = step-most (soupBinTCP deliver) (stateOf r memory) piece
-    by false = omega arith
-
-pub taken-few : (handle table piece handle′ table′ : List ℕ) (m : Moved) → movedOf m handle′ table′ ≡ movedBy handle table piece → m .taken ≤ heldSize
-unfolding movedBy
-taken-few handle table piece handle′ table′ m e = rw (ap (λ (g : Gone). g .taken) e) (step-few (readerIn handle) table piece)
-
--- ---- a step
-
-module _ (handle table piece event : List ℕ) where
-  pub step-event : (length event ≡ recordSize → ⊥) → hostStepped 2068 handle table event ≡ stepHost handle table piece event
-  unfolding stepHost told
-  step-event d = rw (ne-eqb (length event) recordSize d)
-
-  pub step-no-handle : {b : Bool} → length event ≡ recordSize → b ≡ isHandle handle → not b ≡ true → hostStepped 2068 handle table event ≡ stepHost handle table piece event
-  unfolding stepHost told
-  step-no-handle {b} l e f = rw (eq-eqb (length event) recordSize l, not-call b (isHandle handle) e f)
-
-  -- nothing is said of a step that is refused before it begins
-  pub event-none : {A : Type 0} → (length event ≡ recordSize → ⊥) → isHandle handle ≡ true → length event ≡ recordSize → A
-  event-none d i l = absurd (d l)
-
-  pub handle-none : {A : Type 0} {b : Bool} → b ≡ isHandle handle → not b ≡ true → isHandle handle ≡ true → length event ≡ recordSize → A
-  handle-none {b = b} e f i l = absurd (never (sym (not-call b (isHandle handle) e f) ∙ i))
-
-  pub step-goes : {b : Bool} {n : ℕ} (handle′ table′ event′ : List ℕ) (m : Moved) → length event ≡ recordSize → b ≡ isHandle handle → not b ≡ false
-      → movedOf m handle′ table′ ≡ movedBy handle table piece → answered n event′ ≡ told (answerOf (m .texts) (m .answer)) event
-      → hostStepped (n + m .taken * 65_536) handle′ table′ event′ ≡ stepHost handle table piece event
-  unfolding stepHost
-  step-goes {b} handle′ table′ event′ m l e f g i =
-      rw (eq-eqb (length event) recordSize l, not-not-call b (isHandle handle) e f)
-      (ap (λ (a : Answered). hostStepped (a .number + m .taken * 65_536) handle′ table′ (a .memory)) i ∙ ap (λ (x : Gone). steppedAs x event) g)
 
 -- ---- saving
 
@@ -265,19 +177,6 @@ shown-is k next rows mem x out e = rw e (by (leb k (rows + 1)))
 
 -- ---- a handle within its limits
 
-module _ (handle table : List ℕ) {b : Bool} (e : b ≡ isHandle handle) where
-  pub limits-none : not b ≡ true → false ≡ hostWithin handle table
-  unfolding hostWithin
-  limits-none f = rw (not-call b (isHandle handle) e f)
-
-  pub limits-as : not b ≡ false → (h : Head) → h ≡ headOf handle → {w : Bool} → w ≡ lentWithin h (part handle headSize heldSize) table → w ≡ hostWithin handle table
-  unfolding hostWithin
-  limits-as f h g {w} i =
-      let l = handle-length handle (not-not-call b (isHandle handle) e f) in
-      let x : w ≡ withinLimits (readerWith h (part handle headSize heldSize)) table
-      = limits-of (readerWith h (part handle headSize heldSize)) (part-length handle headSize heldSize (omega (arith, l))) h refl table i in
-      rw (not-not-call b (isHandle handle) e f) (x ∙ ap (λ (y : Head). withinLimits (readerWith y (part handle headSize heldSize)) table) g)
-
 module _ (handle table : List ℕ) {w : Bool} (e : w ≡ hostWithin handle table) where
   module _ (f : not w ≡ false) where
     kept : (isHandle handle ≡ true) × (withinLimits (readerIn handle) table ≡ true)
@@ -340,18 +239,6 @@ found-at e = rw e
 pub place-fits : {x : Found} {k : ℕ} → x ≡ At k → FoundFits x → k < mostRows
 place-fits e f = rw e at f
 
--- ---- a handle of the right length
-
-pub handle-fits : (handle : List ℕ) {b : Bool} → b ≡ isHandle handle → not b ≡ false → length handle ≡ handleSize
-handle-fits handle {b} e f = handle-length handle (not-not-call b (isHandle handle) e f)
-
--- the reader in a handle
-pub reader-there : (handle blank held : List ℕ) (h : Head) (r : Reader) → length handle ≡ handleSize → length blank ≡ heldSize → h ≡ headOf handle
-    → held ≡ overlay blank 0 (part handle headSize heldSize) → r ≡ readerWith h held → r ≡ readerIn handle
-reader-there handle blank held h r l m e f g =
-    let n : length (part handle headSize heldSize) ≡ heldSize = part-length handle headSize heldSize (omega (arith, l)) in
-    g ∙ ap (readerWith h) (f ∙ overlay-whole blank (part handle headSize heldSize) (n ∙ sym m)) ∙ ap (λ (x : Head). readerWith x (part handle headSize heldSize)) e
-
 -- ---- the size of an image
 
 size-few : (rows : ℕ) → rows ≤ mostRows → sizeFor rows ≤ mostBlocks * blockSize
@@ -381,59 +268,7 @@ saves-fit r memory out s after e = rw (count-any s [] after ∙ ap (λ (w : Writ
         rw (count-any (o .answer) (o .out) []) (saved-few (headerOf r) memory out (o .answer) (o .out) refl)
     by false = omega arith
 
--- ---- what is told
-
-module _ (n : ℕ) (session memory first after : List ℕ) where
-  pub login-told : length memory ≡ recordSize → length session ≡ 10 → first ≡ overlay memory 0 (bytesBe 8 n) → after ≡ overlay first 8 (part session 0 10)
-      → after ≡ overlay memory 0 (loginBytes n session)
-  login-told l m e f =
-      let w : length (bytesBe 8 n) ≡ 8 = digits-length 256 8 n in
-      f ∙ ap (λ (x : List ℕ). overlay x 8 (part session 0 10)) e ∙ ap (overlay (overlay memory 0 (bytesBe 8 n)) 8) (part-whole session 10 m)
-      ∙ (rw w at (overlay-next memory 0 (bytesBe 8 n) session (omega (arith, w, l, m))))
-
-module _ (texts : Texts) (e : code.Event) (memory : List ℕ) where
-  pub event-login : {n : ℕ} {after : List ℕ} → e ≡ event.Login n → after ≡ overlay memory 0 (loginBytes n (texts .session))
-      → answered 256 after ≡ toldEvent (eventOf texts e) memory
-  unfolding toldEvent
-  event-login f g = rw (f, g)
-
-  pub event-rejected : {n : ℕ} {after : List ℕ} → e ≡ event.Rejected n → after ≡ overlay memory 0 (bytesBe 1 n) → answered 512 after ≡ toldEvent (eventOf texts e) memory
-  unfolding toldEvent
-  event-rejected f g = rw (f, g)
-
-  pub event-message : {m : Message} {after : List ℕ} → e ≡ event.Message m → after ≡ recordBytes m (texts .message) → answered 768 after ≡ toldEvent (eventOf texts e) memory
-  unfolding toldEvent
-  event-message f g = rw (f, g)
-
-  pub event-heartbeat : e ≡ event.Heartbeat → answered 1024 memory ≡ toldEvent (eventOf texts e) memory
-  unfolding toldEvent
-  event-heartbeat f = rw f
-
-  pub event-end : e ≡ event.End → answered 1280 memory ≡ toldEvent (eventOf texts e) memory
-  unfolding toldEvent
-  event-end f = rw f
-
-  pub event-skipped : e ≡ event.Skipped → answered 1536 memory ≡ toldEvent (eventOf texts e) memory
-  unfolding toldEvent
-  event-skipped f = rw f
-
-module _ (texts : Texts) (a : StepAnswer) (memory : List ℕ) where
-  pub tells-event : {e : code.Event} {n : ℕ} {after : List ℕ} → a ≡ answer.Event e → answered n after ≡ toldEvent (eventOf texts e) memory
-      → answered n after ≡ told (answerOf texts a) memory
-  unfolding told
-  tells-event f g = rw f g
-
-  pub tells-more : a ≡ answer.More → answered 0 memory ≡ told (answerOf texts a) memory
-  unfolding told
-  tells-more f = rw f
-
-  pub tells-ended : a ≡ answer.Ended → answered 1792 memory ≡ told (answerOf texts a) memory
-  unfolding told
-  tells-ended f = rw f
-
-  pub tells-refused : {r : Refusal} {n : ℕ} → a ≡ answer.Refused r → n ≡ refusalNumber r → answered (2048 + n) memory ≡ told (answerOf texts a) memory
-  unfolding told
-  tells-refused f g = rw (f, g)
+-- ---- answers as numbers
 
 pub started-ready : {a : StartAnswer} → a ≡ started.Ready → 0 ≡ startNumber a
 started-ready e = rw e

@@ -3,66 +3,37 @@
 -- Assumes nothing.
 use Prim.Native.Nat.{ℕ, _+_, _*_, _≤_, _<_}
 use mathlib.Core.Path.{_≡_}
-use mathlib.Core.Bool.{Bool, true, false, _&&_, cond}
-use mathlib.Core.List.{List, [], _∷_, _++_}
+use mathlib.Core.Bool.{cond}
+use mathlib.Core.List.{List, []}
 use lib.Dec.{eqb, leb}
 use lib.ListN.{length, take, replicate}
-use Rattle.field.specs.Bytes.{part, overlay, bytesBe}
+use Rattle.field.specs.Bytes.{overlay}
 use Rattle.packet.specs.Frame.{heldSize}
-use Rattle.packet.specs.Stream as stream
-use Rattle.packet.specs.Stream.{State, live, ended, refused}
-use Rattle.packet.specs.Session.{Session, Event, login, rejected, message, heartbeat, end, skipped}
-use Rattle.handle.specs.Handle.{headSize, handleSize, isHandle, headOf, headBytes}
-use Rattle.handle.specs.declared.Head.{Head}
+use Rattle.packet.specs.Stream.{State}
+use Rattle.packet.specs.Session.{Session}
+use Rattle.handle.specs.Handle.{handleSize, isHandle, headOf, handleBytes}
 use Rattle.block.specs.Block.{blockSize}
 use Rattle.image.specs.Shape.{mostBlocks}
+use Rattle.image.specs.declared.Saved.{Saved}
 use Rattle.table.specs.Memory.{mostRows, rowFor}
 use Rattle.table.specs.declared.Found.{Found}
 use Rattle.table.specs.declared.Found.the-variants.{At, Nothing}
-use Rattle.image.specs.declared.Saved.{Saved}
 use Rattle.listing.specs.Lines.{endingOf, lineOf}
 use Rattle.listing.specs.declared.Shown.{Shown}
 use Rattle.listing.specs.declared.Shown.the-variants as shown
 use Rattle.listing.specs.declared.Text.{Text}
-use Rattle.record.specs.Places.{recordSize}
-use Rattle.record.specs.Record.{Answered, answered, recordBytes}
-use Rattle.reader.specs.Deliver.{Table, Said}
-use Rattle.reader.specs.View.{Seen, readerWith, stateOf, memoryIn, answerOf}
-use Rattle.reader.specs.Limits.{withinLimits}
-use Rattle.reader.specs.Calls.{Begun, startAll, stepAll, placesAfter}
+use Rattle.record.specs.Record.{Answered, answered}
+use Rattle.reader.specs.Deliver.{Table}
+use Rattle.reader.specs.View.{stateOf, memoryIn}
+use Rattle.reader.specs.Calls.{Begun, startAll}
 use Rattle.reader.specs.Saving.{Written, writtenOf, Came, saveAll, restoreAll}
-use Rattle.reader.specs.declared.Reader.{Reader}
-use Rattle.reader.specs.declared.Moved.{Moved}
-
--- ---- a handle
-
--- the reader that a handle's bytes are
-abbrev pub readerIn : List ℕ → Reader
-readerIn bs = readerWith (headOf bs) (part bs headSize heldSize)
-
--- a head, and behind it the places of held bytes
-unfoldable pub handleBytes : Head → List ℕ → List ℕ
-handleBytes h held = headBytes h ++ held
-
-abbrev pub noHeld : List ℕ
-noHeld = replicate heldSize 0
-
--- the head of a reader in a state, that holds so many bytes
-abbrev pub headIn : State (Session Table) → ℕ → Head
-headIn (live s held) used = record { line = s .line; board = s .about .board; ended = false; refusal = 0; used = used }
-headIn (ended s held) used = record { line = s .line; board = s .about .board; ended = true; refusal = 0; used = used }
-headIn (refused s held e n) used = record { line = s .line; board = s .about .board; ended = e; refusal = n; used = used }
+use Rattle.reader.specs.Handles.{readerIn, hostWithin, headIn, Left, left}
 
 -- ---- STARTING AND RESTORING
 
--- an answer, and the handle and the table that it leaves
-pub record Left : Type 0 where
-  pub number : ℕ
-  pub handle : List ℕ
-  pub table : List ℕ
-
-abbrev pub left : ℕ → List ℕ → List ℕ → Left
-left number handle table = record { number = number; handle = handle; table = table }
+-- places that hold nothing
+abbrev pub noHeld : List ℕ
+noHeld = replicate heldSize 0
 
 -- a reader that holds nothing
 abbrev pub unheld : ℕ → State (Session Table) → ℕ → Left
@@ -94,87 +65,6 @@ StartsOn handle table handle′ table′ = length handle ≡ handleSize → stat
 
 abbrev pub RestoresOn : List ℕ → List ℕ → List ℕ → List ℕ → List ℕ → Type 0
 RestoresOn handle table image handle′ table′ = length handle ≡ handleSize → stateOf (readerIn handle′) table′ ≡ restoreAll image table .state
-
--- ---- A STEP
-
--- event memory: a login's number and session; a rejected login's reason; a message's record
-abbrev pub loginBytes : ℕ → List ℕ → List ℕ
-loginBytes n session = bytesBe 8 n ++ session
-
--- the second byte is the kind: 1 to 6 for events
-unfoldable pub toldEvent : Event Said → List ℕ → Answered
-toldEvent (login n session) memory = answered 256 (overlay memory 0 (loginBytes n session))
-toldEvent (rejected reason) memory = answered 512 (overlay memory 0 (bytesBe 1 reason))
-toldEvent (message x) memory = answered 768 (recordBytes (x .message) (x .texts))
-toldEvent heartbeat memory = answered 1024 memory
-toldEvent end memory = answered 1280 memory
-toldEvent skipped memory = answered 1536 memory
-
--- 0 where more is wanted, 7 after an end, 8 for a refusal
-unfoldable pub told : stream.Answer (Event Said) → List ℕ → Answered
-told (stream.Event e) memory = toldEvent e memory
-told stream.More memory = answered 0 memory
-told stream.Ended memory = answered 1792 memory
-told (stream.Refused n) memory = answered (2048 + n) memory
-
--- a step of a handle where it lies: how many bytes were taken, the answer, and the handle and the table that it leaves
-pub record Gone : Type 0 where
-  pub taken : ℕ
-  pub answer : stream.Answer (Event Said)
-  pub handle : List ℕ
-  pub table : List ℕ
-
-abbrev pub goneTo : Seen → List ℕ → Gone
-goneTo x held =
-    record {
-      taken = x .step .taken;
-      answer = x .step .answer;
-      handle = handleBytes (headIn (x .step .state) (x .used)) held;
-      table = memoryIn (x .step .state);
-    }
-
-unfoldable pub movedBy : List ℕ → List ℕ → List ℕ → Gone
-movedBy handle table piece =
-    let x = stepAll (readerIn handle) table piece in
-    goneTo x (placesAfter (part handle headSize heldSize) (headOf handle .used) piece x)
-
-abbrev pub movedOf : Moved → List ℕ → List ℕ → Gone
-movedOf m handle table = record { taken = m .taken; answer = answerOf (m .texts) (m .answer); handle = handle; table = table }
-
--- an answer, and the handle, the table and the event memory that it leaves
-pub record Stepped : Type 0 where
-  pub number : ℕ
-  pub handle : List ℕ
-  pub table : List ℕ
-  pub event : List ℕ
-
-abbrev pub hostStepped : ℕ → List ℕ → List ℕ → List ℕ → Stepped
-hostStepped number handle table event = record { number = number; handle = handle; table = table; event = event }
-
--- the upper half of the number is the count of bytes taken
-abbrev pub steppedAs : Gone → List ℕ → Stepped
-steppedAs g event =
-    hostStepped (told (g .answer) event .number + g .taken * 65_536) (g .handle) (g .table) (told (g .answer) event .memory)
-
--- 20 for event memory of another length and for bytes that are no handle, and nothing changes
-unfoldable pub stepHost : List ℕ → List ℕ → List ℕ → List ℕ → Stepped
-stepHost handle table piece event =
-    cond (eqb (length event) recordSize && isHandle handle)
-    (steppedAs (movedBy handle table piece) event)
-    (hostStepped (told (stream.Refused 20) event .number) handle table event)
-
--- THE PROMISE OF A STEP
-abbrev pub HostSteps : List ℕ → List ℕ → List ℕ → List ℕ → ℕ → List ℕ → List ℕ → List ℕ → Type 0
-HostSteps handle table piece event a handle′ table′ event′ = hostStepped a handle′ table′ event′ ≡ stepHost handle table piece event
-
--- THE HANDLE GOES ON AS THE READER: what a step leaves of a handle is the reader that the step leaves, so that the calls of a host are
--- those of the reader
-abbrev pub Follows : List ℕ → List ℕ → List ℕ → List ℕ → List ℕ → Type 0
-Follows handle table piece handle′ table′ = stateOf (readerIn handle′) table′ ≡ stepAll (readerIn handle) table piece .step .state
-
--- where the bytes are a handle, and event memory has its length
-abbrev pub GoesOn : List ℕ → List ℕ → List ℕ → List ℕ → List ℕ → List ℕ → Type 0
-GoesOn handle table piece event handle′ table′ = isHandle handle ≡ true → length event ≡ recordSize → Follows handle table piece handle′ table′
 
 -- ---- SAVING
 
@@ -211,10 +101,6 @@ shownAs shown.Unfit text out = answered 20 out
 
 abbrev pub shownTo : Text → List ℕ → Answered
 shownTo t out = shownAs (t .shown) (t .text) out
-
--- a handle that keeps its limits with that table memory
-unfoldable pub hostWithin : List ℕ → List ℕ → Bool
-hostWithin handle table = isHandle handle && withinLimits (readerIn handle) table
 
 -- 20 for bytes that are no handle, and for a handle or table memory that breaks a limit
 unfoldable pub lineHost : List ℕ → List ℕ → ℕ → List ℕ → Answered

@@ -6,7 +6,6 @@ use image::Saved;
 use listing::Shown;
 use listing::Text;
 use packet::HELD_SIZE;
-use reader::Moved;
 use reader::Reader;
 use reader::StartAnswer;
 use record::RECORD_SIZE;
@@ -17,13 +16,12 @@ ghost use mathlib.Core.List.{[]};
 ghost use lib.ListN.{length, take};
 ghost use Rattle.table.specs.Memory.{tableSize};
 ghost use Rattle.listing.specs.Lines.{lineSize, Short};
-ghost use Rattle.handle.specs.Handle.{handleSize};
+ghost use Rattle.handle.specs.Handle.{handleSize, handleBytes};
 ghost use Rattle.record.specs.Places.{recordSize};
 ghost use Rattle.record.specs.Record.{answered, readAnswer, writeAnswer};
 ghost use Rattle.reader.specs.Saving.{writtenOf, restoreNumber};
-ghost use Rattle.nelqubat.specs.Host.{readerIn, handleBytes, noHeld, movedOf, movedBy, Follows, GoesOn, HostSteps, HostStarts, StartsOn, HostRestores, RestoresOn, savedNumber, SavedFits, HostSaves, lineTo, shownTo, hostVersion, hostWithin, lineHost, FoundFits, foundNumber, findHost};
-
-mod told;
+ghost use Rattle.reader.specs.Handles.{HostSteps, GoesOn};
+ghost use Rattle.nelqubat.specs.Host.{noHeld, HostStarts, StartsOn, HostRestores, RestoresOn, savedNumber, SavedFits, HostSaves, lineTo, shownTo, hostVersion, lineHost, FoundFits, foundNumber, findHost};
 
 // The header that the library goes with names the same version.
 const VERSION: u32 = 1;
@@ -87,19 +85,6 @@ pub extern "C" fn nelqubat_start(handle: &mut [u8], table: &mut [u8]) -> u32
     }
 }
 
-// Steps a handle where it lies.
-fn moved(handle: &mut [u8], table: &mut [u8], piece: &[u8]) -> Moved
-    requires { ⌜ length (now handle) ≡ handleSize ⌝ }
-    ensures { λ m. ⌜ movedOf m (now (handle .exit)) (now (table .exit)) ≡ movedBy (now (handle .entry)) (now (table .entry)) (now (piece .entry)) ⌝ }
-    ensures { λ _. ⌜ Follows (now (handle .entry)) (now (table .entry)) (now (piece .entry)) (now (handle .exit)) (now (table .exit)) ⌝ }
-{
-    let head = handle::read_head(handle);
-    let m = reader::step(head, &mut handle[HEAD_SIZE..HANDLE_SIZE], piece, table);
-    let after = m.head;
-    handle::put_head(after, handle);
-    m
-}
-
 // Takes at most one packet of the piece. The second byte of the answer is its kind, the upper half the count of bytes taken.
 #[no_mangle]
 pub extern "C" fn nelqubat_step(
@@ -111,26 +96,7 @@ pub extern "C" fn nelqubat_step(
     ensures { λ r. ⌜ HostSteps (now (handle .entry)) (now (table .entry)) (now (piece .entry)) (now (event .entry)) r (now (handle .exit)) (now (table .exit)) (now (event .exit)) ⌝ }
     ensures { λ _. ⌜ GoesOn (now (handle .entry)) (now (table .entry)) (now (piece .entry)) (now (event .entry)) (now (handle .exit)) (now (table .exit)) ⌝ }
 {
-    if event.len() != RECORD_SIZE {
-        return told::UNFIT;
-    }
-    if !handle::is_handle(handle) {
-        return told::UNFIT;
-    }
-    let m = moved(handle, table, piece);
-    let answer = m.answer;
-    let texts = m.texts;
-    told::answer(answer, texts, event) + m.taken as u32 * 65536
-}
-
-// The reader that a handle is.
-fn reader_in(handle: &[u8]) -> Reader
-    requires { ⌜ length (now handle) ≡ handleSize ⌝ }
-    ensures { λ r. ⌜ r ≡ readerIn (now (handle .entry)) ⌝ }
-{
-    let mut held = [0u8; HELD_SIZE];
-    field::copy(handle, HEAD_SIZE, HELD_SIZE, &mut held, 0);
-    Reader::with(handle::read_head(handle), held)
+    reader::step(handle, table, piece, event)
 }
 
 // What saving said, as a number: 256 times the count of bytes, or the refusal.
@@ -152,7 +118,7 @@ pub extern "C" fn nelqubat_save(handle: &[u8], table: &[u8], out: &mut [u8]) -> 
     if !handle::is_handle(handle) {
         return 20;
     }
-    saved_number(reader_in(handle).save(table, out))
+    saved_number(Reader::read(handle).save(table, out))
 }
 
 fn verdict_number(verdict: image::Verdict) -> u32
@@ -222,23 +188,12 @@ fn put_shown(text: Text, out: &mut [u8]) -> u32
     }
 }
 
-// Are the bytes a handle that keeps its limits with that table memory?
-fn keeps_limits(handle: &[u8], table: &[u8]) -> bool
-    ensures { λ r. ⌜ r ≡ hostWithin (now (handle .entry)) (now (table .entry)) ⌝ }
-{
-    if !handle::is_handle(handle) {
-        return false;
-    }
-    let head = handle::read_head(handle);
-    reader::within_limits(head, &handle[HEAD_SIZE..HANDLE_SIZE], table)
-}
-
 // Line k of the listing to the front of `out`; past the last line there is nothing to write.
 #[no_mangle]
 pub extern "C" fn nelqubat_line(handle: &[u8], table: &[u8], k: usize, out: &mut [u8]) -> u32
     ensures { λ r. ⌜ answered r (now (out .exit)) ≡ lineHost (now (handle .entry)) (now (table .entry)) k (now (out .entry)) ⌝ }
 {
-    if !keeps_limits(handle, table) {
+    if !reader::within_limits(handle, table) {
         return 20;
     }
     let head = handle::read_head(handle);
@@ -263,7 +218,7 @@ fn found_number(found: Found) -> u32
 pub extern "C" fn nelqubat_find(handle: &[u8], table: &[u8], id: u32) -> u32
     ensures { λ r. ⌜ r ≡ findHost (now (handle .entry)) (now (table .entry)) id ⌝ }
 {
-    if !keeps_limits(handle, table) {
+    if !reader::within_limits(handle, table) {
         return 20;
     }
     let head = handle::read_head(handle);

@@ -4,6 +4,7 @@ pub mod Messages
 pub mod Frame
 pub mod Cut
 pub mod Step
+pub mod Bytes
 pub mod Seen
 pub mod Mend
 pub mod Known

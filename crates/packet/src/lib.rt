@@ -4,12 +4,11 @@ use crate::table::Meaning;
 use field::decimal::Number;
 ghost use mathlib.Core.Path.{_≡_};
 ghost use mathlib.Core.List.{List};
-ghost use Prim.Native.Nat.{ℕ, _+_, _≤_, _<_};
+ghost use Prim.Native.Nat.{ℕ, _+_, _≤_};
 ghost use lib.ListN.{length};
 ghost use Rattle.field.specs.Bytes.{part, overlay};
-ghost use Rattle.field.specs.Limits.{highestNumber};
 ghost use Rattle.packet.specs.Frame.{heldSize, roomFor, frame, frontOf};
-ghost use Rattle.packet.specs.Line.{sessionSize, loginSize, loginSession, freshLine, waiting, loggedIn, counted, follows, loginOf, BodyFits, meantOf, packetOf, isMessage};
+ghost use Rattle.packet.specs.Line.{sessionSize, loginSize, loginSession, freshLine, waiting, loggedIn, follows, loginOf, BodyFits, meantOf, packetOf, isMessage};
 ghost use Rattle.packet.specs.declared.Line.{Line};
 
 pub mod numbering;
@@ -222,20 +221,6 @@ impl Line {
             known: true,
             logged: true,
             next: self.next,
-        }
-    }
-
-    // After an accepted message.
-    pub fn counted(self) -> Line
-        requires { ⌜ self .next < highestNumber ⌝ }
-        ensures { λ r. ⌜ r ≡ counted self ⌝ }
-    {
-        let session = self.session;
-        Line {
-            session,
-            known: self.known,
-            logged: self.logged,
-            next: numbering::number_after(self.next),
         }
     }
 }

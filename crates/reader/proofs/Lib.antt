@@ -1,4 +1,9 @@
 pub mod Ways
-pub mod Limits
-pub mod Pieces
-pub mod Lent
+pub mod Kept
+pub mod Views
+pub mod Answers
+pub mod Fits
+pub mod Back
+pub mod Delivered
+pub mod Judged
+pub mod Steps

@@ -4,27 +4,22 @@ use Prim.Native.Nat.{ℕ}
 use mathlib.Core.Path.{_≡_}
 use mathlib.Core.Bool.{cond}
 use mathlib.Core.List.{List, []}
-use lib.Dec.{eqb}
-use lib.ListN.{length}
 use Rattle.field.specs.Bytes.{part, overlay}
 use Rattle.packet.specs.Stream as stream
 use Rattle.packet.specs.Stream.{State, live, stepOf}
 use Rattle.packet.specs.Session.{Session, Event, soupBinTCP}
 use Rattle.packet.specs.Line.{freshLine}
-use Rattle.packet.specs.Frame.{heldSize}
 use Rattle.table.specs.Board as tables
 use Rattle.table.specs.Board.{Outcome, startOf}
 use Rattle.table.specs.declared.Verdict.{Verdict}
 use Rattle.table.specs.declared.Verdict.the-variants.{Accepted, Refused}
 use Rattle.reader.specs.Refusals.{refusalNumber}
-use Rattle.handle.specs.declared.Head.{Head}
 use Rattle.reader.specs.Deliver.{Table, Said, deliver}
-use Rattle.reader.specs.View.{noText, sessionOf, readerWith, stateOf, Seen, seenOf, seen, steppedWith}
+use Rattle.reader.specs.View.{noText, sessionOf, stateOf, Seen, seenOf, seen}
 use Rattle.reader.specs.Limits.{withinLimits}
 use Rattle.reader.specs.declared.Refusal.the-variants.{Unfit}
 use Rattle.reader.specs.declared.Reader.{Reader}
 use Rattle.reader.specs.declared.Stepped.{Stepped}
-use Rattle.reader.specs.declared.Moved.{Moved}
 use Rattle.reader.specs.declared.StartAnswer.{StartAnswer}
 use Rattle.reader.specs.declared.StartAnswer.the-variants as answer
 use Rattle.reader.specs.declared.Started.{Started}
@@ -49,12 +44,7 @@ stepAll r memory piece =
 abbrev pub Stepping : Reader → List ℕ → List ℕ → Stepped → List ℕ → Type 0
 Stepping r memory piece s after = seenOf s after ≡ stepAll r memory piece
 
--- ---- A STEP ON LENT PLACES OF HELD BYTES
-
--- 20 for another count of places than a handle has
-unfoldable pub lentAll : Head → List ℕ → List ℕ → List ℕ → Seen
-lentAll h held memory piece =
-    cond (eqb (length held) heldSize) (stepAll (readerWith h held) memory piece) (unfit (readerWith h held) memory)
+-- ---- THE PLACES OF HELD BYTES, where they are lent
 
 -- where more is wanted, what was taken stands behind the bytes that are held; any other answer leaves the places
 abbrev pub placesBy : stream.Answer (Event Said) → List ℕ → List ℕ → List ℕ
@@ -65,22 +55,6 @@ placesBy (stream.Refused n) held put = held
 
 abbrev pub placesAfter : List ℕ → ℕ → List ℕ → Seen → List ℕ
 placesAfter held used piece x = placesBy (x .step .answer) held (overlay held used (part piece 0 (x .step .taken)))
-
--- a call, and the places that it leaves
-pub record Lent : Type 0 where
-  pub call : Seen
-  pub held : List ℕ
-
-abbrev pub lentOf : Moved → List ℕ → List ℕ → Lent
-lentOf m held memory = record { call = seenOf (steppedWith m held) memory; held = held }
-
-abbrev pub lentBy : List ℕ → ℕ → List ℕ → Seen → Lent
-lentBy held used piece x = record { call = x; held = placesAfter held used piece x }
-
--- THE PROMISE OF A STEP ON LENT PLACES
-abbrev pub LentStepping : Head → List ℕ → List ℕ → List ℕ → Moved → List ℕ → List ℕ → Type 0
-LentStepping h held memory piece m held′ memory′ =
-    lentOf m held′ memory′ ≡ lentBy held (h .used) piece (lentAll h held memory piece)
 
 -- ---- STARTING
 

@@ -3,5 +3,6 @@ pub mod Deliver
 pub mod View
 pub mod Limits
 pub mod Calls
+pub mod Handles
 pub mod Shapes
 pub mod Saving

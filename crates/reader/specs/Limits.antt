@@ -2,7 +2,7 @@
 -- Assumes nothing.
 use Prim.Native.Nat.{ℕ}
 use mathlib.Core.Bool.{Bool, true, false, _&&_}
-use mathlib.Core.List.{List}
+use mathlib.Core.List.{List, []}
 use lib.Dec.{eqb, leb}
 use lib.ListN.{length}
 use Rattle.field.specs.Limits.{numberInRange}
@@ -34,3 +34,14 @@ withinLimits r memory =
 -- where the places of held bytes are lent: as many as a handle has, and the limits of the handle
 unfoldable pub lentWithin : Head → List ℕ → List ℕ → Bool
 lentWithin h held memory = eqb (length held) heldSize && withinLimits (readerWith h held) memory
+
+-- a head with these numbers, on which the limits are; whatever else it has
+abbrev pub headWith : ℕ → ℕ → ℕ → ℕ → Head
+headWith rows next used refusal =
+    record {
+      line = record { session = []; known = false; logged = false; next = next };
+      board = record { rows = rows; event = 0; live = 0 };
+      ended = false;
+      refusal = refusal;
+      used = used;
+    }

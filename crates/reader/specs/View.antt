@@ -23,7 +23,6 @@ use Rattle.reader.specs.declared.Reader.{Reader}
 use Rattle.reader.specs.declared.StepAnswer.{StepAnswer}
 use Rattle.reader.specs.declared.StepAnswer.the-variants as answer
 use Rattle.reader.specs.declared.Stepped.{Stepped}
-use Rattle.reader.specs.declared.Moved.{Moved}
 
 -- ---- a session: the line, and the table that its messages are about
 
@@ -131,9 +130,3 @@ answerTexts (stream.Refused n) = noText
 
 abbrev pub seen : stream.Stepped (Session Table) (Event Said) → Seen
 seen s = record { step = s; used = length (heldIn (s .state)); texts = answerTexts (s .answer) }
-
--- ---- a call on lent places of held bytes
-
--- as a call by value, that hands back these places
-abbrev pub steppedWith : Moved → List ℕ → Stepped
-steppedWith m held = record { reader = readerWith (m .head) held; taken = m .taken; answer = m .answer; texts = m .texts }

@@ -1,25 +1,28 @@
 // The reader: a handle by value with the bytes of a packet that is not whole yet; it is started, stepped, and handed back.
-use crate::verdicts::Outcome;
-use crate::verdicts::Verdict;
+use handle::HANDLE_SIZE;
+use handle::HEAD_SIZE;
 use handle::Head;
 use image::Header;
 use image::Saved;
 use packet::Framing;
 use packet::HELD_SIZE;
 use packet::Line;
+use record::RECORD_SIZE;
 use table::Board;
 ghost use mathlib.Core.Path.{_≡_};
-ghost use Prim.Native.Nat.{_≤_};
 ghost use lib.ListN.{length};
-ghost use Rattle.packet.specs.Frame.{heldSize};
+ghost use Rattle.handle.specs.Handle.{handleSize, headOf, handleBytes};
 ghost use Rattle.reader.specs.View.{noText, readerWith, headPart, readyOf};
-ghost use Rattle.reader.specs.Limits.{holdsUnfinished, lentWithin};
-ghost use Rattle.reader.specs.Calls.{LentStepping, Stepping, Starting};
-ghost use Rattle.reader.specs.Shapes.{Fit, LiveStepping, Closing, BadClosing, handedOf, moreMoved, stillMoved, unheldOf, fewerMoved};
+ghost use Rattle.reader.specs.Calls.{Stepping, Starting};
+ghost use Rattle.reader.specs.Handles.{readerIn, hostWithin, hostStepped, HostSteps, GoesOn};
+ghost use Rattle.reader.specs.Shapes.{Ready, Holding, Keeping, goneOn};
 ghost use Rattle.reader.specs.Saving.{lineOf, Saves, Restores};
 
+mod deliver;
+mod limits;
+mod packets;
 pub mod refusals;
-mod verdicts;
+mod told;
 
 // Why a call is refused.
 pub enum Refusal {
@@ -82,14 +85,6 @@ pub struct Stepped {
     pub texts: Texts,
 }
 
-// What a step on lent places of held bytes hands back: the head, and the count of bytes taken.
-pub struct Moved {
-    pub head: Head,
-    pub taken: usize,
-    pub answer: StepAnswer,
-    pub texts: Texts,
-}
-
 pub enum StartAnswer {
     Ready,
     Refused(Refusal),
@@ -115,202 +110,111 @@ pub fn no_text() -> Texts
     }
 }
 
-// A call that takes nothing and leaves the handle.
-fn still(head: Head, answer: StepAnswer) -> Moved
-    ensures { λ m. ⌜ m ≡ stillMoved head answer ⌝ }
-{
-    Moved {
-        head,
-        taken: 0,
-        answer,
-        texts: no_text(),
-    }
-}
-
-// A call that ends with a packet: nothing is held.
-fn handed(v: Verdict, taken: usize, ended: bool, refusal: u8, answer: StepAnswer) -> Moved
-    ensures { λ m. ⌜ m ≡ handedOf v taken ended refusal answer ⌝ }
-{
-    let line = v.line;
-    let board = v.board;
-    let texts = v.texts;
-    Moved {
-        head: Head {
-            line,
-            board,
-            ended,
-            refusal,
-            used: 0,
-        },
-        taken,
-        answer,
-        texts,
-    }
-}
-
-// A packet was judged, and so many bytes of the piece were taken.
-fn closed(v: Verdict, taken: usize) -> Moved
-    ensures { λ m. ⌜ Closing v taken m ⌝ }
-{
-    let outcome = v.outcome;
-    match outcome {
-        Outcome::Accept(e) => handed(v, taken, false, 0, StepAnswer::Event(e)),
-        Outcome::Finish(e) => handed(v, taken, true, 0, StepAnswer::Event(e)),
-        Outcome::Refuse(r) => handed(v, taken, false, refusals::number(r), StepAnswer::Refused(r)),
-    }
-}
-
-// A length that no packet has, known by its second byte.
-fn bad_length(head: Head, taken: usize) -> Moved
-    ensures { λ m. ⌜ BadClosing head taken m ⌝ }
-{
-    let line = head.line;
-    let board = head.board;
-    closed(
-        verdicts::quiet(line, board, Outcome::Refuse(Refusal::BadPacketLength)),
-        taken,
-    )
-}
-
-// A piece that was taken whole, and its packet is not whole yet.
-fn more(head: Head, used: usize, taken: usize) -> Moved
-    ensures { λ m. ⌜ m ≡ moreMoved head used taken ⌝ }
-{
-    let line = head.line;
-    let board = head.board;
-    Moved {
-        head: Head {
-            line,
-            board,
-            ended: false,
-            refusal: 0,
-            used,
-        },
-        taken,
-        answer: StepAnswer::More,
-        texts: no_text(),
-    }
-}
-
 // Nothing is held: a whole packet is judged where it lies in the piece.
-fn straight(head: Head, held: &mut [u8], piece: &[u8], table: &mut [u8]) -> Moved
-    requires { ⌜ Fit (readerWith head (now held)) × ((head .used ≡ 0) × (length (now held) ≡ heldSize)) ⌝ }
-    ensures { λ m. ⌜ LiveStepping head (now (held .entry)) (now (table .entry)) (now (piece .entry)) m (now (held .exit)) (now (table .exit)) ⌝ }
+fn straight(rows: usize, handle: &mut [u8], table: &mut [u8], piece: &[u8], event: &mut [u8]) -> u32
+    requires { ⌜ Ready (now handle) (now table) (now event) × (rows ≡ headOf (now handle) .board .rows) ⌝ }
+    ensures { λ r. ⌜ hostStepped r (now (handle .exit)) (now (table .exit)) (now (event .exit)) ≡ goneOn (now (handle .entry)) (now (table .entry)) (now (piece .entry)) (now (event .entry)) ⌝ }
 {
-    let line = head.line;
-    let board = head.board;
     match packet::front(piece) {
         Framing::Short => {
             let taken = piece.len();
-            field::copy(piece, 0, taken, held, 0);
-            more(head, taken, taken)
+            field::copy(piece, 0, taken, handle, HEAD_SIZE);
+            handle::put_used(taken, handle);
+            taken as u32 * told::BYTE_TAKEN
         }
-        Framing::BadLength => bad_length(head, 2),
+        Framing::BadLength => {
+            told::refuse(refusals::number(Refusal::BadPacketLength), handle) + 2 * told::BYTE_TAKEN
+        }
         Framing::Whole(size) => {
             let end = size + 2;
-            let v = verdicts::act(line, board, piece[2], &piece[3..end], table);
-            closed(v, end)
+            packets::act(rows, handle, table, piece[2], &piece[3..end], event)
+                + end as u32 * told::BYTE_TAKEN
         }
-    }
-}
-
-// The same handle, with nothing held.
-fn unheld(head: Head) -> Head
-    ensures { λ h. ⌜ h ≡ unheldOf head ⌝ }
-{
-    let line = head.line;
-    let board = head.board;
-    Head {
-        line,
-        board,
-        ended: head.ended,
-        refusal: head.refusal,
-        used: 0,
-    }
-}
-
-// The same answer, with so many bytes fewer taken.
-fn fewer(m: Moved, n: usize) -> Moved
-    requires { ⌜ n ≤ m .taken ⌝ }
-    ensures { λ r. ⌜ r ≡ fewerMoved n m ⌝ }
-{
-    let head = m.head;
-    let answer = m.answer;
-    let texts = m.texts;
-    Moved {
-        head,
-        taken: m.taken - n,
-        answer,
-        texts,
     }
 }
 
 // The start of a packet is held: what there is room for of the piece is joined to a copy of it, and read there.
-fn mended(head: Head, held: &mut [u8], piece: &[u8], table: &mut [u8]) -> Moved
-    requires { ⌜ Fit (readerWith head (now held)) × (length (now held) ≡ heldSize) ⌝ }
-    ensures { λ m. ⌜ LiveStepping head (now (held .entry)) (now (table .entry)) (now (piece .entry)) m (now (held .exit)) (now (table .exit)) ⌝ }
+fn mended(
+    rows: usize,
+    used: usize,
+    handle: &mut [u8],
+    table: &mut [u8],
+    piece: &[u8],
+    event: &mut [u8],
+) -> u32
+    requires { ⌜ Holding (now handle) (now table) (now event) × ((rows ≡ headOf (now handle) .board .rows) × (used ≡ headOf (now handle) .used)) ⌝ }
+    ensures { λ r. ⌜ hostStepped r (now (handle .exit)) (now (table .exit)) (now (event .exit)) ≡ goneOn (now (handle .entry)) (now (table .entry)) (now (piece .entry)) (now (event .entry)) ⌝ }
 {
-    let used = head.used;
     let n = packet::room(used, piece.len());
-    let all = packet::joined(held, used, piece, n);
+    let all = packet::joined(&handle[HEAD_SIZE..HANDLE_SIZE], used, piece, n);
     let end = used + n;
-    let m = straight(unheld(head), held, &all[..end], table);
-    fewer(m, used)
+    handle::put_used(0, handle);
+    straight(rows, handle, table, &all[..end], event) - used as u32 * told::BYTE_TAKEN
 }
 
-// Are the held bytes those of an unfinished packet?
-fn holds_unfinished(head: Head, held: &[u8]) -> bool
-    requires { ⌜ length (now held) ≡ heldSize ⌝ }
-    ensures { λ r. ⌜ r ≡ holdsUnfinished (readerWith head (now (held .entry))) ⌝ }
+// A handle that keeps its limits takes at most one packet.
+fn moved(rows: usize, handle: &mut [u8], table: &mut [u8], piece: &[u8], event: &mut [u8]) -> u32
+    requires { ⌜ Keeping (now handle) (now table) (now event) × (rows ≡ headOf (now handle) .board .rows) ⌝ }
+    ensures { λ r. ⌜ HostSteps (now (handle .entry)) (now (table .entry)) (now (piece .entry)) (now (event .entry)) r (now (handle .exit)) (now (table .exit)) (now (event .exit)) ⌝ }
 {
-    let used = head.used;
-    if HELD_SIZE < used {
-        return false;
-    }
-    match packet::front(&held[..used]) {
-        Framing::Short => true,
-        Framing::BadLength => false,
-        Framing::Whole(_) => false,
-    }
-}
-
-// Does the handle keep its limits, with these places of held bytes and that table memory?
-pub fn within_limits(head: Head, held: &[u8], table: &[u8]) -> bool
-    ensures { λ r. ⌜ r ≡ lentWithin head (now (held .entry)) (now (table .entry)) ⌝ }
-{
-    if held.len() != HELD_SIZE {
-        return false;
-    }
-    if !table::rows_fit(head.board.rows, table) {
-        return false;
-    }
-    if !field::limits::number_in_range(head.line.next) {
-        return false;
-    }
-    if !holds_unfinished(head, held) {
-        return false;
-    }
-    refusals::stands(head.refusal)
-}
-
-// Takes at most one packet of the piece. The places of held bytes are lent: those that more is wanted for are put there.
-pub fn step(head: Head, held: &mut [u8], piece: &[u8], table: &mut [u8]) -> Moved
-    ensures { λ m. ⌜ LentStepping head (now (held .entry)) (now (table .entry)) (now (piece .entry)) m (now (held .exit)) (now (table .exit)) ⌝ }
-{
-    if !within_limits(head, held, table) {
-        return still(head, StepAnswer::Refused(Refusal::Unfit));
-    }
-    let refusal = head.refusal;
+    let refusal = handle::refusal(handle);
     if refusal != 0 {
-        return still(head, StepAnswer::Refused(refusals::named(refusal)));
+        return told::REFUSED + refusal as u32;
     }
-    if head.ended {
-        return still(head, StepAnswer::Ended);
+    if handle::ended(handle) {
+        return told::ENDED;
     }
-    if head.used == 0 {
-        return straight(head, held, piece, table);
+    let used = handle::used(handle);
+    if used == 0 {
+        return straight(rows, handle, table, piece, event);
     }
-    mended(head, held, piece, table)
+    mended(rows, used, handle, table, piece, event)
+}
+
+// Does a handle keep its limits, with that table memory?
+pub fn within_limits(handle: &[u8], table: &[u8]) -> bool
+    ensures { λ r. ⌜ r ≡ hostWithin (now (handle .entry)) (now (table .entry)) ⌝ }
+{
+    if !handle::is_handle(handle) {
+        return false;
+    }
+    limits::keep(
+        handle::rows(handle),
+        handle::next(handle),
+        handle::used(handle),
+        handle::refusal(handle),
+        &handle[HEAD_SIZE..HANDLE_SIZE],
+        table,
+    )
+}
+
+// Takes at most one packet of the piece, on a handle where it lies. The low byte of the answer is the refusal, 0 for none, the second its kind, and
+// the upper half the count of bytes taken.
+pub fn step(handle: &mut [u8], table: &mut [u8], piece: &[u8], event: &mut [u8]) -> u32
+    ensures { λ r. ⌜ HostSteps (now (handle .entry)) (now (table .entry)) (now (piece .entry)) (now (event .entry)) r (now (handle .exit)) (now (table .exit)) (now (event .exit)) ⌝ }
+    ensures { λ _. ⌜ GoesOn (now (handle .entry)) (now (table .entry)) (now (piece .entry)) (now (event .entry)) (now (handle .exit)) (now (table .exit)) ⌝ }
+{
+    if !handle::is_handle(handle) {
+        return told::UNFIT;
+    }
+    if event.len() != RECORD_SIZE {
+        return told::UNFIT;
+    }
+    let rows = handle::rows(handle);
+    let next = handle::next(handle);
+    let used = handle::used(handle);
+    let refusal = handle::refusal(handle);
+    if !limits::keep(
+        rows,
+        next,
+        used,
+        refusal,
+        &handle[HEAD_SIZE..HANDLE_SIZE],
+        table,
+    ) {
+        return told::UNFIT;
+    }
+    moved(rows, handle, table, piece, event)
 }
 
 // A handle that holds nothing and has neither ended nor refused.
@@ -390,18 +294,40 @@ impl Reader {
         }
     }
 
-    // Takes at most one packet of the piece.
+    // The bytes of a handle with this reader.
+    fn laid(self) -> [u8; HANDLE_SIZE]
+        ensures { λ r. ⌜ r ≡ handleBytes (headPart self) (self .held) ⌝ }
+    {
+        let mut bytes = [0u8; HANDLE_SIZE];
+        let held = self.held;
+        field::copy(&held, 0, HELD_SIZE, &mut bytes, HEAD_SIZE);
+        handle::put_head(self.head(), &mut bytes);
+        bytes
+    }
+
+    // The reader that a handle's bytes are.
+    pub fn read(handle: &[u8]) -> Reader
+        requires { ⌜ length (now handle) ≡ handleSize ⌝ }
+        ensures { λ r. ⌜ r ≡ readerIn (now (handle .entry)) ⌝ }
+    {
+        let mut held = [0u8; HELD_SIZE];
+        field::copy(handle, HEAD_SIZE, HELD_SIZE, &mut held, 0);
+        Reader::with(handle::read_head(handle), held)
+    }
+
+    // Takes at most one packet of the piece: the step on bytes of its own, with event memory of its own.
     pub fn step(self, piece: &[u8], table: &mut [u8]) -> Stepped
         ensures { λ s. ⌜ Stepping self (now (table .entry)) (now (piece .entry)) s (now (table .exit)) ⌝ }
     {
-        let mut held = self.held;
-        let moved = step(self.head(), &mut held, piece, table);
-        let head = moved.head;
-        let answer = moved.answer;
-        let texts = moved.texts;
+        let mut handle = self.laid();
+        let mut event = [0u8; RECORD_SIZE];
+        let number = step(&mut handle, table, piece, &mut event);
+        let heard = told::read_back(number, &event);
+        let answer = heard.answer;
+        let texts = heard.texts;
         Stepped {
-            reader: Reader::with(head, held),
-            taken: moved.taken,
+            reader: Reader::read(&handle),
+            taken: (number / told::BYTE_TAKEN) as usize,
             answer,
             texts,
         }
@@ -412,7 +338,14 @@ impl Reader {
         ensures { λ r. ⌜ Saves self (now (table .entry)) (now (out .entry)) r (now (out .exit)) ⌝ }
     {
         let held = self.held;
-        if !within_limits(self.head(), &held, table) {
+        if !limits::keep(
+            self.board.rows,
+            self.line.next,
+            self.used,
+            self.refusal,
+            &held,
+            table,
+        ) {
             return Saved::Unsaved(image::Refusal::Unfit);
         }
         let line = self.line;

@@ -3,7 +3,6 @@ use crate::Refusal;
 use packet::Fault;
 ghost use mathlib.Core.Path.{_≡_};
 ghost use Rattle.packet.specs.Refusals.{faultNumber};
-ghost use Rattle.message.specs.Message as messages;
 ghost use Rattle.table.specs.Board as tables;
 ghost use Rattle.reader.specs.Refusals.{refusalNumber, standing, named};
 
@@ -67,16 +66,6 @@ pub fn of_packet(f: Fault) -> Refusal
         Fault::BadForm => Refusal::BadForm,
         Fault::NotNext => Refusal::NotNext,
         Fault::NumbersUsedUp => Refusal::NumbersUsedUp,
-    }
-}
-
-pub fn of_message(m: message::Refusal) -> Refusal
-    ensures { λ r. ⌜ refusalNumber r ≡ messages.refusalNumber m ⌝ }
-{
-    match m {
-        message::Refusal::UnknownLetter => Refusal::UnknownMessage,
-        message::Refusal::WrongLength => Refusal::WrongLength,
-        message::Refusal::BadField => Refusal::BadField,
     }
 }
 

@@ -1,5 +1,4 @@
 pub mod Laid
-pub mod Puts
 pub mod Moved
 pub mod Ways
 pub mod Typed

@@ -8,19 +8,22 @@ use native.Mathlib.Omega.{arith}
 use borrow.Author.Tests.{leb-true, eqb-true}
 use lib.Dec.{leb, eqb, lit<}
 use lib.ListN.{length, take, drop, getD}
-use Rattle.field.specs.Bytes.{part, overlay, be, bytesBe, Bytes}
+use Rattle.field.specs.Bytes.{part, overlay, be, digits, bytesBe, Bytes}
 use Rattle.field.specs.Decimal.{charsThenSpaces}
 use Rattle.field.proofs.Bools.{both-left, both-right}
 use Rattle.field.proofs.Parts.{part-length, overlay-length}
 use Rattle.field.proofs.Numbers.{digits-value, part-bytes, Lent, lent-bytes}
 use Rattle.field.proofs.Writes.{carried-run}
 use Rattle.message.specs.Layout.{Rule, binary, decimal, text, bytes, Row, valueIn, bytesIn, values, bytesFor}
-use Rattle.message.specs.Letters.{letters, letterIn, anything, endOfReplayRows, endOfReplayOf, stampRows, stampOf, instrumentRows, directoryRows, quoteRows, systemEventRows, shortNumbersRows, longNumbersRows, longNumbersFields, longNumbersOf, shortQuoteRows, longQuoteRows, shortSideRows, longSideRows}
+use Rattle.message.specs.Letters.{letters, letterIn, anything, endOfReplayRows, endOfReplayOf, stampRows, instrumentRows, directoryRows, quoteRows, systemEventRows, shortNumbersRows, longNumbersRows, longNumbersFields, longNumbersOf, shortQuoteRows, longQuoteRows, shortSideRows, longSideRows}
 use Rattle.message.specs.declared.Side.{Side}
+use Rattle.message.specs.declared.LongNumbers.{LongNumbers}
 use Rattle.message.proofs.Layouts.{plain}
+use Rattle.message.proofs.Puts.{long-numbers-put}
+use Rattle.message.proofs.Typed.{inside}
 use Rattle.record.specs.Places.{recordSize, letterPlace, stampPlaces, instrumentPlaces, directoryPlaces, endOfReplayPlaces, recordLetters, headPlaces, systemEventPlaces, sideAt, shortPlaces, longPlaces, shortQuotePlaces, longQuotePlaces, shortSidePlaces, longSidePlaces}
 use Rattle.record.specs.Record.{laid, laidFrom, laidBack}
-use Rattle.record.proofs.Puts.{long-laid, head-length, numbers-length}
+use Rattle.record.proofs.Laid.{laid-length}
 
 clash : {A : Type 0} → false ≡ true → A
 clash e = let z : _≡_ {A = ℕ} 0 1 = cc in absurd (omega arith)
@@ -133,6 +136,16 @@ short-moved xs bs at from {us} {vs} {ws} {ys} {zs} k h e f g i j =
     (omega arith, refl, refl, refl, (omega arith, refl, refl, refl, (omega arith, refl, refl, refl, (omega arith, refl, refl, refl, (omega arith, refl, refl, refl, tt)))))
     (lent-bytes bs k) (us, e, (vs, f, (ws, g, (ys, i, (zs, j, refl)))))
 
+-- five numbers side by side
+long-laid : (xs : List ℕ) (at : ℕ) (n : LongNumbers) → at + 20 ≤ length xs
+    → overlay xs at (bytesFor (longNumbersRows at) (longNumbersFields n)) ≡ laid (longPlaces at) (longNumbersFields n) xs
+unfolding laid
+long-laid xs at n h = sym (long-numbers-put xs at n h refl refl refl refl refl)
+
+numbers-length : (at : ℕ) (n : LongNumbers) → length (bytesFor (longNumbersRows at) (longNumbersFields n)) ≡ 20
+unfolding bytesFor digits
+numbers-length at n = refl
+
 -- ---- the sides of a quote behind its head
 
 module _ (xs bs : List ℕ) {us : List ℕ} (e : us ≡ laid (letterPlace ∷ headPlaces) (values (letterPlace ∷ quoteRows) bs) xs) where
@@ -148,8 +161,10 @@ module _ (xs bs : List ℕ) {us : List ℕ} (e : us ≡ laid (letterPlace ∷ he
 
   module _ (h : recordSize ≤ length xs) where
     head-long : length us ≡ length xs
-    unfolding values
-    head-long = ap length e ∙ head-length xs (be (part bs 0 1)) (stampOf (values stampRows bs)) (be (part bs 11 4)) (be (part bs 15 1)) h
+    unfolding values digits inside
+    head-long =
+        ap length e
+        ∙ laid-length (letterPlace ∷ headPlaces) (values (letterPlace ∷ quoteRows) bs) xs recordSize (refl, (refl, (refl, (refl, (refl, tt))))) h refl
 
     pub long-side-moved : (side : Side) (at : ℕ) {zs : List ℕ} → at ≡ sideAt side → at ≤ 44
         → zs ≡ overlay us at (bytesFor (longNumbersRows at) (longNumbersFields (longNumbersOf (values (longNumbersRows 16) bs))))

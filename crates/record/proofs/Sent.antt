@@ -1,4 +1,4 @@
--- A record written straight as its message's bytes: each way through the code gives what the definitions say.
+-- A record taken, and written straight as its message's bytes: each way through the code gives what the definitions say.
 -- Assumes nothing.
 use mathlib.Core.Path.{_≡_, refl, sym, ap, _∙_}
 use mathlib.Core.Bool.{Bool, true, false, _&&_, not, cond, and-assoc, and-true}
@@ -120,6 +120,44 @@ module _ (bs : List ℕ) (h : length bs ≡ recordSize) where
             ∙ (letter-laid (letterFor m) (fieldsOf m t) (letterFor m .code) (be (part bs 0 1)) out tiles fit (part-below bs 0 1 s (omega arith)) b room);
       }
 
+  -- what the bytes are the record of
+  by-own : (w : Sent) (b : Bool) → same (recordBytes (w .said) (w .texts)) bs ≡ b → recordOf bs ≡ cond b (held (w .said) (w .texts)) noRecord
+  unfolding recordOf confirmed
+  by-own w b e = rw (eq-eqb (length bs) recordSize h, w .is, e)
+
+  unlisted-none : letterIn letters (first bs) .size ≡ 0 → recordOf bs ≡ noRecord
+  unfolding recordOf saidOf saidBy confirmed
+  unlisted-none e = rw (eq-eqb (length bs) recordSize h) (by (eqb (letterIn recordLetters (getD bs 0 0) .size) 0) refl)
+    where
+      k : Letter Content
+      k = letterIn recordLetters (getD bs 0 0)
+
+      by : (b : Bool) → eqb (k .size) 0 ≡ b
+          → confirmed (cond b noRecord (held (k .makes (values (k .rows) bs) .0) (k .makes (values (k .rows) bs) .1)) .taken)
+          (cond b noRecord (held (k .makes (values (k .rows) bs) .0) (k .makes (values (k .rows) bs) .1)) .texts) bs ≡ noRecord
+      by true q = refl
+      by false q = absurd (feed-listed (eqb-false (k .size) 0 q) e)
+
+  module _ (w : Sent) {ok : Bool} (q : ok ≡ isOwn (first bs) bs) where
+    stray-none : not ok ≡ true → recordOf bs ≡ noRecord
+    stray-none y = by-own w false (sym (w .own) ∙ sym q ∙ not-true ok y)
+
+    own-held : not ok ≡ false → recordOf bs ≡ held (w .said) (w .texts)
+    own-held y = by-own w true (sym (w .own) ∙ sym q ∙ not-false ok y)
+
+  -- taken: each way through the code
+  module _ {n : ℕ} (is : n ≡ letterIn letters (getD bs 0 0) .size) where
+    pub take-unlisted : {r : Held} → n ≡ 0 → r ≡ noRecord → r ≡ recordOf bs
+    take-unlisted e p = p ∙ sym (unlisted-none (sym is ∙ e))
+
+    module _ {ok : Bool} (some : n ≡ 0 → ⊥) (q : ok ≡ isOwn (getD bs 0 0) bs) where
+      pub take-stray : {r : Held} → not ok ≡ true → r ≡ noRecord → r ≡ recordOf bs
+      take-stray y p = p ∙ sym (stray-none (sent (λ e. some (is ∙ e))) q y)
+
+      pub take-own : {r : Held} → not ok ≡ false → r ≡ saidBy (letterIn recordLetters (getD bs 0 0)) bs → r ≡ recordOf bs
+      unfolding saidOf
+      take-own y p = let w = sent (λ e. some (is ∙ e)) in p ∙ w .is ∙ sym (own-held w q y)
+
 -- ---- the rules, where the fields lie in a record
 
 pub head-kept : (bs : List ℕ) {a b : Bool} {v : ℕ} → a ≡ timeInRange (be (part bs 8 8)) → v ≡ be (part bs 1 1) → b ≡ listed conditions v
@@ -192,28 +230,14 @@ module _ (bs out : List ℕ) (size : ℕ) (h : length bs ≡ recordSize) (is : s
   a-record m t e = ap (λ (x : Held). writeFrom (x .taken) (x .texts) out) (sym e) ∙ as-taken
 
   pub sent-unlisted : size ≡ 0 → answered 26 out ≡ writeAnswer bs out
-  unfolding recordOf saidOf saidBy confirmed
-  sent-unlisted e = no-record (rw (eq-eqb (length bs) recordSize h) (by (eqb (letterIn recordLetters (getD bs 0 0) .size) 0) refl))
-    where
-      k : Letter Content
-      k = letterIn recordLetters (getD bs 0 0)
-
-      by : (b : Bool) → eqb (k .size) 0 ≡ b
-          → confirmed (cond b noRecord (held (k .makes (values (k .rows) bs) .0) (k .makes (values (k .rows) bs) .1)) .taken)
-          (cond b noRecord (held (k .makes (values (k .rows) bs) .0) (k .makes (values (k .rows) bs) .1)) .texts) bs ≡ noRecord
-      by true q = refl
-      by false q = absurd (feed-listed bs h (eqb-false (k .size) 0 q) (sym is ∙ e))
+  sent-unlisted e = no-record (unlisted-none bs h (sym is ∙ e))
 
   module _ (some : size ≡ 0 → ⊥) where
     it : Sent bs h
     it = sent bs h (λ e. some (is ∙ e))
 
-    by-own : (b : Bool) → same (recordBytes (it .said) (it .texts)) bs ≡ b → recordOf bs ≡ cond b (held (it .said) (it .texts)) noRecord
-    unfolding recordOf confirmed
-    by-own b e = rw (eq-eqb (length bs) recordSize h, it .is, e)
-
     pub sent-stray : {ok : Bool} → ok ≡ isOwn (getD bs 0 0) bs → not ok ≡ true → answered 26 out ≡ writeAnswer bs out
-    sent-stray {ok} p n = no-record (by-own false (sym (it .own) ∙ sym p ∙ not-true ok n))
+    sent-stray p n = no-record (stray-none bs h it p n)
 
     pub sent-broken : {ok : Bool} → ok ≡ keepsAll (letterIn letters (getD bs 0 0) .rows) (values (letterIn recordLetters (getD bs 0 0) .rows) bs) → not ok ≡ true
         → answered 26 out ≡ writeAnswer bs out
@@ -224,8 +248,8 @@ module _ (bs out : List ℕ) (size : ℕ) (h : length bs ≡ recordSize) (is : s
         broken = sym (it .rules) ∙ sym p ∙ not-true ok n
 
         by : (b : Bool) → same (recordBytes (it .said) (it .texts)) bs ≡ b → answered 26 out ≡ writeAnswer bs out
-        by true e = rw broken at (a-record (it .said) (it .texts) (by-own true e))
-        by false e = no-record (by-own false e)
+        by true e = rw broken at (a-record (it .said) (it .texts) (by-own bs h it true e))
+        by false e = no-record (by-own bs h it false e)
 
     module _ {kept own : Bool} (p : kept ≡ keepsAll (letterIn letters (getD bs 0 0) .rows) (values (letterIn recordLetters (getD bs 0 0) .rows) bs)) (y : not kept ≡ false)
         (q : own ≡ isOwn (getD bs 0 0) bs) (z : not own ≡ false) where
@@ -233,7 +257,7 @@ module _ (bs out : List ℕ) (size : ℕ) (h : length bs ≡ recordSize) (is : s
       keeps-it = sym (it .rules) ∙ sym p ∙ not-false kept y
 
       is-it : recordOf bs ≡ held (it .said) (it .texts)
-      is-it = by-own true (sym (it .own) ∙ sym q ∙ not-false own z)
+      is-it = own-held bs h it q z
 
       size-is : letterFor (it .said) .size ≡ size
       size-is = sym (it .size) ∙ sym is

@@ -1,14 +1,13 @@
 -- The ways through the code: what it finds, test by test, is what the definitions say.
 -- Assumes nothing.
 use mathlib.Core.Path.{_≡_, refl, sym, ap, _∙_}
-use mathlib.Core.Bool.{Bool, true, false}
 use mathlib.Core.List.{List}
 use Prim.Native.Nat.{ℕ, _+_, _≤_}
 use native.Mathlib.Omega.{arith}
 use borrow.Author.Tests.{eq-eqb, ne-eqb}
-use lib.ListN.{length, getD, replicate}
-use Rattle.field.specs.Bytes.{part, overlay, be, same}
-use Rattle.field.proofs.Parts.{part-length, part-whole, overlay-whole}
+use lib.ListN.{length, replicate}
+use Rattle.field.specs.Bytes.{part, overlay, be}
+use Rattle.field.proofs.Parts.{part-length, overlay-whole}
 use Rattle.message.specs.Layout.{values}
 use Rattle.message.specs.Feed.{Letter}
 use Rattle.message.specs.Letters.{Content, letterIn, unlisted, noTexts, shortNumbersOf, textsOf}
@@ -16,15 +15,12 @@ use Rattle.message.specs.Test.{tested}
 use Rattle.message.specs.Message.{readOf}
 use Rattle.message.specs.declared.ShortNumbers.{ShortNumbers}
 use Rattle.message.specs.declared.Message.{Message}
-use Rattle.message.specs.declared.Message.the-variants as message
 use Rattle.message.specs.declared.Texts.{Texts}
 use Rattle.message.specs.declared.Answer.{Answer}
 use Rattle.message.specs.declared.Answer.the-variants as reading
 use Rattle.message.proofs.Feeds.{found}
 use Rattle.record.specs.Places.{recordSize, shortPlaces, instrumentPlaces, recordLetters}
-use Rattle.record.specs.Record.{laidOver, recordBytes, held, noRecord, saidBy, saidOf, confirmed, recordOf, answered, readTo, readAnswer, writeAnswer}
-use Rattle.record.specs.declared.Taken.{Taken}
-use Rattle.record.specs.declared.Taken.the-variants.{Is, NoRecord}
+use Rattle.record.specs.Record.{held, noRecord, saidBy, recordOf, answered, readTo, readAnswer, writeAnswer}
 use Rattle.record.specs.declared.Held.{Held}
 
 -- ---- what the fields say
@@ -78,38 +74,9 @@ no-arm c bs {r} n1 n2 n3 n4 n5 n6 n7 n8 n9 n10 p =
 
 -- ---- taken from bytes
 
-pub whole-same : (own bs : List ℕ) (m : Message) (t : Texts) {r : Bool} → own ≡ laidOver m t (replicate recordSize 0) → length own ≡ recordSize
-    → length bs ≡ recordSize → r ≡ same (part own 0 recordSize) (part bs 0 recordSize) → r ≡ same (recordBytes m t) bs
-unfolding recordBytes
-whole-same own bs m t e k h p = p ∙ rw (part-whole own recordSize k, part-whole bs recordSize h, e)
-
 pub take-long : (bs : List ℕ) {r : Held} → (length bs ≡ recordSize → ⊥) → r ≡ noRecord → r ≡ recordOf bs
 unfolding recordOf
 take-long bs h p = p ∙ rw (ne-eqb (length bs) recordSize h)
-
-module _ (bs : List ℕ) (said : Held) (h : length bs ≡ recordSize) (is : said ≡ saidBy (letterIn recordLetters (getD bs 0 0)) bs) where
-  as-said : confirmed (said .taken) (said .texts) bs ≡ recordOf bs
-  unfolding recordOf saidOf
-  as-said = rw (eq-eqb (length bs) recordSize h, is)
-
-  pub take-none : {r : Held} → said .taken ≡ NoRecord → r ≡ noRecord → r ≡ recordOf bs
-  unfolding confirmed
-  take-none e p = p ∙ ap (λ (x : Taken). confirmed x (said .texts) bs) (sym e) ∙ as-said
-
-  module _ (m : Message) {ok : Bool} (e : said .taken ≡ Is m) (q : ok ≡ same (recordBytes m (said .texts)) bs) where
-    as-is : confirmed (Is m) (said .texts) bs ≡ recordOf bs
-    as-is = ap (λ (x : Taken). confirmed x (said .texts) bs) (sym e) ∙ as-said
-
-    as-held : said ≡ held m (said .texts)
-    as-held i = record { taken = e i; texts = said .texts }
-
-    pub take-yes : ok ≡ true → said ≡ recordOf bs
-    unfolding confirmed
-    take-yes y = as-held ∙ (rw (← q, y) at as-is)
-
-    pub take-no : {r : Held} → ok ≡ false → r ≡ noRecord → r ≡ recordOf bs
-    unfolding confirmed
-    take-no n p = p ∙ (rw (← q, n) at as-is)
 
 -- ---- read to a record
 

@@ -63,7 +63,7 @@ fn short_side(kept: &[u8], side: Side, out: &mut [u8])
     requires { ⌜ (length (now kept) ≡ recordSize) × (26 ≤ length (now out)) ⌝ }
     ensures { λ _. ⌜ now (out .exit) ≡ laid (letterPlace ∷ shortSideRows) (values (letterPlace ∷ shortSidePlaces side) (now (kept .entry))) (now (out .entry)) ⌝ }
 {
-    let at = crate::lay::side_at(side);
+    let at = crate::side_at(side);
     head(kept, out);
     short(kept, at, out, 16);
 }
@@ -81,7 +81,7 @@ fn long_side(kept: &[u8], side: Side, out: &mut [u8])
     requires { ⌜ (length (now kept) ≡ recordSize) × (36 ≤ length (now out)) ⌝ }
     ensures { λ _. ⌜ now (out .exit) ≡ laid (letterPlace ∷ longSideRows) (values (letterPlace ∷ longSidePlaces side) (now (kept .entry))) (now (out .entry)) ⌝ }
 {
-    let at = crate::lay::side_at(side);
+    let at = crate::side_at(side);
     head(kept, out);
     numbers::carry_long(kept, at, out, 16);
 }
@@ -188,7 +188,7 @@ fn zeros(kept: &[u8], from: usize, n: usize) -> bool
     requires { ⌜ from + n ≤ length (now kept) ⌝ }
     ensures { λ r. ⌜ r ≡ every isZero (part (now (kept .entry)) from n) ⌝ }
 {
-    text::all(kept, from, n, 0)
+    text::only(kept, from, n, 0)
 }
 
 // Are the numbers of a side those of a short quote?

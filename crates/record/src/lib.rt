@@ -1,16 +1,16 @@
 // The record of a message in bytes: 112 of them, the same places for all letters, and 0 where a letter has no field.
 use message::Message;
+use message::Side;
 use message::Texts;
 ghost use mathlib.Core.Path.{_≡_};
+ghost use Prim.Native.Nat.{_≤_};
 ghost use lib.ListN.{length};
-ghost use Rattle.field.specs.Bytes.{same};
 ghost use Rattle.message.specs.Message.{readOf};
 ghost use Rattle.message.specs.Test.{tested};
-ghost use Rattle.record.specs.Places.{recordSize};
-ghost use Rattle.record.specs.Record.{recordBytes, noRecord, recordOf, answered, readTo, readAnswer, writeAnswer};
+ghost use Rattle.record.specs.Places.{recordSize, sideAt};
+ghost use Rattle.record.specs.Record.{noRecord, recordOf, answered, readTo, readAnswer, writeAnswer};
 
 mod back;
-mod lay;
 mod say;
 mod wire;
 
@@ -39,6 +39,16 @@ fn none() -> Held
     }
 }
 
+// Where the numbers of a side stand.
+fn side_at(side: Side) -> usize
+    ensures { λ r. ⌜ (r ≡ sideAt side) × (r ≤ 44) ⌝ }
+{
+    match side {
+        Side::Bid => 24,
+        Side::Ask => 44,
+    }
+}
+
 // The record of a message's bytes, which have passed their test.
 pub fn put(bytes: &[u8], out: &mut [u8])
     requires { ⌜ (tested (readOf (now bytes)) ≡ 0) × (length (now out) ≡ recordSize) ⌝ }
@@ -46,25 +56,6 @@ pub fn put(bytes: &[u8], out: &mut [u8])
 {
     field::fill(out, 0, RECORD_SIZE, 0);
     wire::lay(bytes, out);
-}
-
-// The record of a message, all of it.
-pub fn put_message(m: Message, t: Texts, memory: &mut [u8])
-    requires { ⌜ length (now memory) ≡ recordSize ⌝ }
-    ensures { λ _. ⌜ now (memory .exit) ≡ recordBytes m t ⌝ }
-{
-    field::fill(memory, 0, RECORD_SIZE, 0);
-    lay::message(m, t, memory);
-}
-
-// Are the bytes the record of this message?
-fn is_record(m: Message, t: Texts, bytes: &[u8]) -> bool
-    requires { ⌜ length (now bytes) ≡ recordSize ⌝ }
-    ensures { λ r. ⌜ r ≡ same (recordBytes m t) (now (bytes .entry)) ⌝ }
-{
-    let mut own = [0; RECORD_SIZE];
-    lay::message(m, t, &mut own);
-    field::equal(&own, 0, bytes, 0, RECORD_SIZE)
 }
 
 // The message of a record: none for bytes that are no record.
@@ -75,18 +66,13 @@ pub fn take(bytes: &[u8]) -> Held
         return none();
     }
     let letter = bytes[0];
-    let said = say::message(letter, bytes);
-    let t = said.texts;
-    let taken = said.taken;
-    match taken {
-        Taken::Is(m) => {
-            if is_record(m, t, bytes) {
-                return said;
-            }
-            none()
-        }
-        Taken::NoRecord => none(),
+    if message::lengths::length_of(letter) == 0 {
+        return none();
     }
+    if !back::is_own(letter, bytes) {
+        return none();
+    }
+    say::message(letter, bytes)
 }
 
 // A message's bytes read to its record: 0, or the number of a refusal, which leaves the record memory.

@@ -1,7 +1,6 @@
 // What the fields of a record's bytes say, by their letter: one reader for each kind.
 use crate::Held;
 use crate::Taken;
-use crate::lay;
 use message::Directory;
 use message::EndOfReplay;
 use message::Instrument;
@@ -162,7 +161,7 @@ fn short_side(bytes: &[u8], side: Side) -> Held
         id: field::read4(bytes, 4),
         condition: field::read1(bytes, 1),
         side,
-        numbers: short(bytes, lay::side_at(side)),
+        numbers: short(bytes, crate::side_at(side)),
     }))
 }
 
@@ -175,7 +174,7 @@ fn long_side(bytes: &[u8], side: Side) -> Held
         id: field::read4(bytes, 4),
         condition: field::read1(bytes, 1),
         side,
-        numbers: numbers::long(bytes, lay::side_at(side)),
+        numbers: numbers::long(bytes, crate::side_at(side)),
     }))
 }
 

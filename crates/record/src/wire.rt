@@ -55,7 +55,7 @@ fn short_side(bytes: &[u8], side: Side, out: &mut [u8])
     requires { ⌜ (26 ≤ length (now bytes)) × (recordSize ≤ length (now out)) ⌝ }
     ensures { λ _. ⌜ now (out .exit) ≡ laid (letterPlace ∷ shortSidePlaces side) (values (letterPlace ∷ shortSideRows) (now (bytes .entry))) (now (out .entry)) ⌝ }
 {
-    let at = crate::lay::side_at(side);
+    let at = crate::side_at(side);
     head(bytes, out);
     short(bytes, 16, out, at);
 }
@@ -73,7 +73,7 @@ fn long_side(bytes: &[u8], side: Side, out: &mut [u8])
     requires { ⌜ (36 ≤ length (now bytes)) × (recordSize ≤ length (now out)) ⌝ }
     ensures { λ _. ⌜ now (out .exit) ≡ laid (letterPlace ∷ longSidePlaces side) (values (letterPlace ∷ longSideRows) (now (bytes .entry))) (now (out .entry)) ⌝ }
 {
-    let at = crate::lay::side_at(side);
+    let at = crate::side_at(side);
     head(bytes, out);
     numbers::carry_long(bytes, 16, out, at);
 }

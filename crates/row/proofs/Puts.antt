@@ -2,43 +2,31 @@
 -- Assumes nothing.
 use mathlib.Core.Path.{_≡_, refl, sym, ap, _∙_}
 use mathlib.Core.Bool.{Bool, true, false, cond, _&&_, _||_}
-use mathlib.Core.List.{List, [], _∷_}
-use Prim.Native.Nat.{ℕ, _+_, _/_, _%_, _≤_}
-use native.Mathlib.Omega.{arith}
+use mathlib.Core.List.{List}
+use Prim.Native.Nat.{ℕ, _+_, _/_, _%_}
 use borrow.Author.Tests.{eq-eqb, ne-eqb}
 use lib.Dec.{eqb, leb}
 use lib.ListN.{length, replicate, length-replicate}
-use Rattle.field.specs.Bytes.{part, overlay, digits, be, bytesBe, same}
-use Rattle.field.specs.Limits.{priceInRange, tenThousandths}
+use Rattle.field.specs.Bytes.{part, overlay, be, bytesBe}
+use Rattle.field.specs.Limits.{priceInRange}
 use Rattle.field.specs.Text.{every, isZero}
-use Rattle.field.proofs.Parts.{part-whole, overlay-whole}
-use Rattle.field.proofs.Writes.{piece, run-joined}
+use Rattle.field.proofs.Parts.{overlay-whole}
 use Rattle.message.specs.Layout.{bytesFor, values}
 use Rattle.message.specs.Letters.{listed, states, conditions, stampRows, stampFields, longNumbersRows, longNumbersFields, instrumentRows, instrumentFields}
-use Rattle.message.specs.declared.Stamp.{Stamp}
 use Rattle.message.specs.declared.Side.{Side}
 use Rattle.message.specs.declared.Side.the-variants.{Bid, Ask}
-use Rattle.message.specs.declared.ShortNumbers.{ShortNumbers}
 use Rattle.message.specs.declared.LongNumbers.{LongNumbers}
 use Rattle.message.specs.declared.Instrument.{Instrument}
 use Rattle.message.specs.declared.Directory.{Directory}
 use Rattle.message.specs.declared.TradingAction.{TradingAction}
 use Rattle.message.specs.declared.Texts.{Texts}
-use Rattle.row.specs.Fields.{rowSize, textsIn, idOf, tradableOf, sideAt, priceOf, hasSeen, weight, seenWith, stateTakesQuote, takesQuote}
-use Rattle.row.specs.Changes.{changed, purge, directoryChanges, unchanged, newRow, actionChanges, widened, sidesChanges, quoteChanges}
+use Rattle.row.specs.Fields.{rowSize, idOf, tradableOf, sideAt, sidesOf, priceOf, hasSeen, weight, seenWith, stateTakesQuote, takesQuote}
+use Rattle.row.specs.Changes.{changed, purge, directoryChanges, newRow, actionChanges, sidesChanges, quoteChanges}
 use Rattle.row.specs.Rules.{marksKeep, sideKeeps}
-use Rattle.row.specs.declared.Sides.{Sides}
 use Rattle.row.specs.declared.Sides.the-variants.{One, Both}
 use Rattle.row.specs.declared.Quote.{Quote}
 
 -- ---- the fields of a row
-
-pub stamp-put : (xs : List ℕ) (s : Stamp) {us zs : List ℕ} → rowSize ≤ length xs
-    → us ≡ overlay xs 96 (bytesBe 2 (s .tracking)) → zs ≡ overlay us 98 (bytesBe 8 (s .time))
-    → zs ≡ overlay xs 96 (bytesFor stampRows (stampFields s))
-unfolding digits bytesFor
-stamp-put xs s {us} {zs} h e f =
-    run-joined xs 96 (piece 2 (bytesBe 2 (s .tracking))) (piece 8 (bytesBe 8 (s .time)) ∷ []) (refl, (refl, tt)) (omega arith) e (zs, f, refl)
 
 -- the sides seen, with one more
 module _ (side : Side) (sides : ℕ) where
@@ -70,11 +58,6 @@ bid-told sides i = rw i
 pub ask-told : {side : Side} (sides : ℕ) → side ≡ Ask → eqb (sides / 2 % 2) 1 ≡ hasSeen side sides
 ask-told sides i = rw i
 
--- a short price is pennies
-pub widened-made : (n : ShortNumbers) {price : ℕ} → price ≡ tenThousandths (n .price)
-    → _≡_ {A = LongNumbers} (record { market = n .market; price = price; size = n .size; customer = n .customer; professional = n .professional }) (widened n)
-widened-made n e = rw e
-
 -- ---- the messages
 
 -- each change is laid over what the changes before it left
@@ -91,20 +74,20 @@ pub action-put : (xs : List ℕ) (a : TradingAction) {us zs : List ℕ} → us �
 unfolding changed actionChanges
 action-put xs a e f = f ∙ over 96 (bytesFor stampRows (stampFields (a .stamp))) e
 
-pub side-put : (xs : List ℕ) (side : Side) (n : LongNumbers) (seen : ℕ) {sides : Sides} {w at : ℕ} {us zs : List ℕ} → sides ≡ One side n
+pub side-put : (xs : List ℕ) (side : Side) (n : LongNumbers) (seen : ℕ) {w at : ℕ} {us zs : List ℕ} → seen ≡ sidesOf xs
     → w ≡ seenWith side seen → us ≡ overlay xs 54 (bytesBe 1 w) → at ≡ sideAt side
     → zs ≡ overlay us at (bytesFor (longNumbersRows at) (longNumbersFields n))
-    → zs ≡ changed (sidesChanges sides seen) xs
+    → zs ≡ changed (sidesChanges (One side n) (sidesOf xs)) xs
 unfolding changed sidesChanges
-side-put xs side n seen i p e q f = cc
+side-put xs side n seen s p e q f = cc
 
-pub both-put : (xs : List ℕ) (bid ask : LongNumbers) (seen : ℕ) {sides : Sides} {v w : ℕ} {us vs zs : List ℕ} → sides ≡ Both bid ask
+pub both-put : (xs : List ℕ) (bid ask : LongNumbers) (seen : ℕ) {v w : ℕ} {us vs zs : List ℕ} → seen ≡ sidesOf xs
     → v ≡ seenWith Bid seen → w ≡ seenWith Ask v → us ≡ overlay xs 54 (bytesBe 1 w)
     → vs ≡ overlay us 56 (bytesFor (longNumbersRows 56) (longNumbersFields bid))
     → zs ≡ overlay vs 76 (bytesFor (longNumbersRows 76) (longNumbersFields ask))
-    → zs ≡ changed (sidesChanges sides seen) xs
+    → zs ≡ changed (sidesChanges (Both bid ask) (sidesOf xs)) xs
 unfolding changed sidesChanges
-both-put xs bid ask seen i p q e f g = cc
+both-put xs bid ask seen s p q e f g = cc
 
 pub quote-put : (xs : List ℕ) (q : Quote) {seen : ℕ} {us vs zs : List ℕ} → seen ≡ be (part xs 54 1)
     → us ≡ overlay xs 53 (bytesBe 1 (q .condition)) → vs ≡ overlay us 96 (bytesFor stampRows (stampFields (q .stamp)))
@@ -136,17 +119,6 @@ new-put xs d t h z e f g =
 pub id-read : (xs : List ℕ) {id : ℕ} → id ≡ be (part xs 0 4) → id ≡ idOf xs
 unfolding idOf values
 id-read xs e = e
-
-pub symbol-same : (xs symbol : List ℕ) {r : Bool} → length symbol ≡ 8 → r ≡ same (part xs 4 8) (part symbol 0 8) → r ≡ same (textsIn xs .symbol) symbol
-unfolding values
-symbol-same xs symbol e p = p ∙ ap (same (part xs 4 8)) (part-whole symbol 8 e)
-
--- the fields that may not change, one by one
-pub fixed-same : (xs : List ℕ) (i : Instrument) (t : Texts) {s : Bool} {year month day strike kind : ℕ} → s ≡ same (textsIn xs .symbol) (t .symbol)
-    → year ≡ be (part xs 12 1) → month ≡ be (part xs 13 1) → day ≡ be (part xs 14 1) → strike ≡ be (part xs 15 4) → kind ≡ be (part xs 19 1)
-    → s && (eqb year (i .year) && (eqb month (i .month) && (eqb day (i .day) && (eqb strike (i .strike) && eqb kind (i .kind))))) ≡ unchanged i t xs
-unfolding unchanged values
-fixed-same xs i t a b c d e f = rw (a, b, c, d, e, f)
 
 -- a quote is taken where the state takes one and tradable is Y
 module _ (xs : List ℕ) {state : ℕ} {quoting : Bool} (e : state ≡ be (part xs 52 1)) (f : quoting ≡ stateTakesQuote state) where

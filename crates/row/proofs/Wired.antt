@@ -30,7 +30,7 @@ use Rattle.row.specs.Changes.{changed, purge, directoryChanges, unchange
 use Rattle.row.specs.Wire.{stampIn, longIn, shortIn, actionIn, instrumentIn, textsIn, directoryIn, sidesIn, quoteIn}
 use Rattle.row.specs.declared.Sides.{Sides}
 use Rattle.row.specs.declared.Sides.the-variants.{One, Both}
-use Rattle.row.proofs.Puts.{action-put, directory-put, directory-kept, side-put, both-put, quote-put}
+use Rattle.row.proofs.Puts.{action-put, directory-put, directory-kept, quote-put}
 
 -- ---- fields side by side
 
@@ -103,19 +103,7 @@ fixed-wired xs bs k l h g p q r s =
     )
     (simp and-true)
 
--- ---- the sides of a quote
-
-pub side-early : (xs : List ℕ) (side : Side) (n : LongNumbers) (seen : ℕ) {w at : ℕ} {us zs : List ℕ} → seen ≡ sidesOf xs → w ≡ seenWith side seen
-    → us ≡ overlay xs 54 (bytesBe 1 w) → at ≡ sideAt side → zs ≡ overlay us at (bytesFor (longNumbersRows at) (longNumbersFields n))
-    → zs ≡ changed (sidesChanges (One side n) (sidesOf xs)) xs
-side-early xs side n seen s p e q f = side-put xs side n (sidesOf xs) refl (p ∙ ap (seenWith side) s) e q f
-
-pub both-early : (xs : List ℕ) (bid ask : LongNumbers) (seen : ℕ) {v w : ℕ} {us vs zs : List ℕ} → seen ≡ sidesOf xs → v ≡ seenWith Bid seen
-    → w ≡ seenWith Ask v → us ≡ overlay xs 54 (bytesBe 1 w) → vs ≡ overlay us 56 (bytesFor (longNumbersRows 56) (longNumbersFields bid))
-    → zs ≡ overlay vs 76 (bytesFor (longNumbersRows 76) (longNumbersFields ask)) → zs ≡ changed (sidesChanges (Both bid ask) (sidesOf xs)) xs
-both-early xs bid ask seen s p q e f g = both-put xs bid ask (sidesOf xs) refl (p ∙ ap (seenWith Bid) s) q e f g
-
--- the numbers first
+-- ---- the sides of a quote, the numbers first
 
 module _ (xs : List ℕ) (h : rowSize ≤ length xs) (n : LongNumbers) where
   numbers-length : (at : ℕ) → length (bytesFor (longNumbersRows at) (longNumbersFields n)) ≡ 20

@@ -32,7 +32,7 @@ fn side_keeps(side: Side, row: &[u8]) -> bool
     ensures { λ r. ⌜ r ≡ sideKeeps side (now (row .entry)) ⌝ }
 {
     let at = fields::side_at(side);
-    (fields::has_seen(side, fields::sides(row)) | text::all(row, at, 20, 0))
+    (fields::has_seen(side, fields::sides(row)) | text::only(row, at, 20, 0))
         & limits::price_keeps(row, at + 4)
 }
 
@@ -54,7 +54,7 @@ fn spare_keeps(row: &[u8]) -> bool
     requires { ⌜ rowSize ≤ length (now row) ⌝ }
     ensures { λ r. ⌜ r ≡ spareKeeps (now (row .entry)) ⌝ }
 {
-    text::all(row, 55, 1, 0) & text::all(row, 106, 18, 0)
+    text::only(row, 55, 1, 0) & text::only(row, 106, 18, 0)
 }
 
 pub fn keep(row: &[u8]) -> bool

@@ -1,5 +1,6 @@
 // What a message does to a row, straight from its bytes, which have passed their test.
 use crate::fields;
+use field::limits;
 use message::Side;
 use message::numbers;
 ghost use mathlib.Core.Path.{_≡_};
@@ -30,7 +31,7 @@ fn put_short(row: &mut [u8], at: usize, bytes: &[u8], from: usize)
     field::write4(
         row,
         at + 4,
-        field::limits::ten_thousandths(field::read2(bytes, from + 2)),
+        limits::ten_thousandths(field::read2(bytes, from + 2)),
     );
     field::write4(row, at + 8, field::read2(bytes, from + 4) as u32);
     field::write4(row, at + 12, field::read2(bytes, from + 6) as u32);

@@ -12,10 +12,10 @@ use Rattle.field.specs.Bytes.{part, be}
 use Rattle.field.proofs.Parts.{overlay-own}
 use Rattle.message.specs.Layout.{values}
 use Rattle.message.specs.Feed.{Letter, letterAmong, Sized}
-use Rattle.message.specs.Letters.{Content, letters, letterIn, unlisted}
+use Rattle.message.specs.Letters.{Content, letters, letterIn, unlisted, endOfReplayRows, endOfReplayOf}
 use Rattle.message.specs.Message.{refused, told, readOf}
 use Rattle.message.specs.Message as message
-use Rattle.message.specs.Test.{testedAs, quoteLength}
+use Rattle.message.specs.Test.{testedAs, tested, quoteLength}
 use Rattle.message.specs.declared.Message.{Message}
 use Rattle.message.specs.declared.Texts.{Texts}
 use Rattle.message.specs.declared.Reading.{Reading}
@@ -31,7 +31,7 @@ use Rattle.row.specs.Changes.{changed, newRow, unchanged, directoryChanges, act
 use Rattle.row.specs.Wire.{sidesIn, actionIn, instrumentIn, directoryIn, textsIn, quoteIn}
 use Rattle.table.specs.Memory.{mostRows, tableSize, row, withRow, rowFor}
 use Rattle.table.specs.Board as board
-use Rattle.table.specs.Board.{Outcome, lookFor, effectAt, effect, directoryAt, actionAt, quoteAt}
+use Rattle.table.specs.Board.{Outcome, withEvent, withLive, lookFor, effectAt, effect, directoryAt, actionAt, quoteAt}
 use Rattle.table.specs.Wire.{placed, Rowed, Placeable, effectIn, AtRow, AtNone}
 use Rattle.table.specs.declared.Found.{Found}
 use Rattle.table.specs.declared.Found.the-variants.{At, Nothing}
@@ -245,3 +245,32 @@ module _ (bs mem : List ℕ) (p : Rowed bs) {rows id : ℕ} {w : Found} (i : id 
   pub place-none : {zs : List ℕ} {x : Placed} → w ≡ Nothing → AtNone (effectIn bs) rows mem zs x
       → (b : Board) (m : Message) (t : Texts) → b .rows ≡ rows → readOf bs ≡ message.accepted m t → placed x b zs ≡ effect b m t mem
   place-none e g b m t q a = g .told b q ∙ sym (at-found Nothing e b m t q a)
+
+-- ---- S and M, which look for no row
+
+module _ (bs : List ℕ) (passed : tested (readOf bs) ≡ 0) where
+  listed-sized : Sized (letterIn letters (getD bs 0 0)) bs
+  listed-sized = fine-sized bs (accepted-exactly bs .0 (passed-taken (readOf bs .answer) passed))
+
+  pub event-room : getD bs 0 0 ≡ 83 → 11 + 1 ≤ length bs
+  unfolding letters letterAmong
+  event-room e = room 83 (getD bs 0 0) bs e listed-sized
+
+  pub end-room : getD bs 0 0 ≡ 77 → 21 ≤ length bs
+  unfolding letters letterAmong
+  end-room e = room 77 (getD bs 0 0) bs e listed-sized
+
+module _ (bs : List ℕ) (b : Board) (m : Message) (t : Texts) (mem : List ℕ) (e : readOf bs ≡ message.accepted m t) where
+  as-made : effect b m t mem ≡ effect b (made bs .0) (made bs .1) mem
+  as-made = sym (told-effect (made bs) b m t mem (read-made (read-verdict bs) m t e))
+
+  abbrev effectBy : ℕ → Outcome
+  effectBy c = let x = letterIn letters c .makes (values (letterIn letters c .rows) bs) in effect b (x .0) (x .1) mem
+
+  pub event-wired : getD bs 0 0 ≡ 83 → effect b m t mem ≡ board.accepted (withEvent (be (part bs 11 1)) b) mem
+  unfolding letters letterAmong values effect effectAt lookFor
+  event-wired k = as-made ∙ ap effectBy k
+
+  pub end-wired : getD bs 0 0 ≡ 77 → effect b m t mem ≡ board.accepted (withLive (endOfReplayOf (values endOfReplayRows bs) .number) b) mem
+  unfolding letters letterAmong values effect effectAt lookFor
+  end-wired k = as-made ∙ ap effectBy k

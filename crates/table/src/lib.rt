@@ -1,18 +1,11 @@
-// The table of instruments, in memory that the caller lends at each call: what a message does to it.
-use message::Directory;
-use message::Message;
-use message::Texts;
-use message::TradingAction;
-use row::Quote;
+// The table of instruments, in memory that the caller lends at each call: its start, and the row for an id.
 ghost use mathlib.Core.Path.{_≡_};
-ghost use Prim.Native.Nat.{_≤_, _*_, _+_};
+ghost use Prim.Native.Nat.{_≤_, _*_};
 ghost use lib.ListN.{length};
 ghost use Rattle.row.specs.Fields.{rowSize};
-ghost use Rattle.table.specs.Memory.{isTable, rowsFit, Fitting, rowFor};
-ghost use Rattle.table.specs.Board.{refusalNumber, freshBoard, taken, denied, outcome, withEvent, withLive, startOf, directoryAt, actionAt, quoteAt, applyOf, effect};
-ghost use Rattle.table.specs.declared.Found.the-variants.{At, Nothing};
+ghost use Rattle.table.specs.Memory.{isTable, rowsFit, rowFor};
+ghost use Rattle.table.specs.Board.{refusalNumber, freshBoard, taken, denied, outcome, startOf};
 
-mod quotes;
 mod walk;
 pub mod wire;
 
@@ -138,138 +131,4 @@ pub fn start(table: &mut [u8]) -> Applied
     }
     field::fill(table, 0, TABLE_SIZE, 0);
     accept(fresh_board())
-}
-
-// A directory for an id that has no row yet.
-fn add(board: Board, d: Directory, t: Texts, table: &mut [u8]) -> Applied
-    requires { ⌜ Fitting (board .rows) (now table) ⌝ }
-    ensures { λ r. ⌜ outcome r (now (table .exit)) ≡ directoryAt board d t (now (table .entry)) Nothing ⌝ }
-{
-    if MOST_ROWS <= board.rows {
-        return refuse(Refusal::TableFull, board);
-    }
-    let from = board.rows * row::ROW_SIZE;
-    let to = from + row::ROW_SIZE;
-    row::put_new(&mut table[from..to], d, t);
-    accept(Board {
-        rows: board.rows + 1,
-        event: board.event,
-        live: board.live,
-    })
-}
-
-// A directory for the id of row k.
-fn relist(k: usize, board: Board, d: Directory, t: Texts, table: &mut [u8]) -> Applied
-    requires { ⌜ k * rowSize + rowSize ≤ length (now table) ⌝ }
-    ensures { λ r. ⌜ outcome r (now (table .exit)) ≡ directoryAt board d t (now (table .entry)) (At k) ⌝ }
-{
-    let i = d.instrument;
-    let from = k * row::ROW_SIZE;
-    let to = from + row::ROW_SIZE;
-    if !row::unchanged(&table[from..to], i, t) {
-        return refuse(Refusal::FixedField, board);
-    }
-    row::put_directory(&mut table[from..to], d, t);
-    accept(board)
-}
-
-fn directory(board: Board, d: Directory, t: Texts, table: &mut [u8]) -> Applied
-    requires { ⌜ Fitting (board .rows) (now table) ⌝ }
-    ensures { λ r. ⌜ outcome r (now (table .exit)) ≡ directoryAt board d t (now (table .entry)) (rowFor (board .rows) (now (table .entry)) (d .instrument .id)) ⌝ }
-{
-    match find(table, board.rows, d.instrument.id) {
-        Found::At(k) => relist(k, board, d, t, table),
-        Found::Nothing => add(board, d, t, table),
-    }
-}
-
-// A state for the id of row k.
-fn act_at(k: usize, board: Board, a: TradingAction, table: &mut [u8]) -> Applied
-    requires { ⌜ k * rowSize + rowSize ≤ length (now table) ⌝ }
-    ensures { λ r. ⌜ outcome r (now (table .exit)) ≡ actionAt board a (now (table .entry)) (At k) ⌝ }
-{
-    let from = k * row::ROW_SIZE;
-    let to = from + row::ROW_SIZE;
-    row::put_action(&mut table[from..to], a);
-    accept(board)
-}
-
-fn act(board: Board, a: TradingAction, table: &mut [u8]) -> Applied
-    requires { ⌜ Fitting (board .rows) (now table) ⌝ }
-    ensures { λ r. ⌜ outcome r (now (table .exit)) ≡ actionAt board a (now (table .entry)) (rowFor (board .rows) (now (table .entry)) (a .id)) ⌝ }
-{
-    match find(table, board.rows, a.id) {
-        Found::At(k) => act_at(k, board, a, table),
-        Found::Nothing => refuse(Refusal::NoRow, board),
-    }
-}
-
-// A quote for the id of row k.
-fn quote_at(k: usize, board: Board, q: Quote, table: &mut [u8]) -> Applied
-    requires { ⌜ k * rowSize + rowSize ≤ length (now table) ⌝ }
-    ensures { λ r. ⌜ outcome r (now (table .exit)) ≡ quoteAt board q (now (table .entry)) (At k) ⌝ }
-{
-    let from = k * row::ROW_SIZE;
-    let to = from + row::ROW_SIZE;
-    if !row::takes_quote(&table[from..to]) {
-        return refuse(Refusal::NoQuotes, board);
-    }
-    row::put_quote(&mut table[from..to], q);
-    accept(board)
-}
-
-fn quote(board: Board, q: Quote, table: &mut [u8]) -> Applied
-    requires { ⌜ Fitting (board .rows) (now table) ⌝ }
-    ensures { λ r. ⌜ outcome r (now (table .exit)) ≡ quoteAt board q (now (table .entry)) (rowFor (board .rows) (now (table .entry)) (q .id)) ⌝ }
-{
-    match find(table, board.rows, q.id) {
-        Found::At(k) => quote_at(k, board, q, table),
-        Found::Nothing => refuse(Refusal::NoRow, board),
-    }
-}
-
-fn with_event(code: u8, board: Board) -> Board
-    ensures { λ r. ⌜ r ≡ withEvent code board ⌝ }
-{
-    Board {
-        rows: board.rows,
-        event: code,
-        live: board.live,
-    }
-}
-
-fn with_live(number: u64, board: Board) -> Board
-    ensures { λ r. ⌜ r ≡ withLive number board ⌝ }
-{
-    Board {
-        rows: board.rows,
-        event: board.event,
-        live: number,
-    }
-}
-
-fn dispatch(board: Board, message: Message, texts: Texts, table: &mut [u8]) -> Applied
-    requires { ⌜ Fitting (board .rows) (now table) ⌝ }
-    ensures { λ r. ⌜ outcome r (now (table .exit)) ≡ effect board message texts (now (table .entry)) ⌝ }
-{
-    match message {
-        Message::SystemEvent(m) => accept(with_event(m.code, board)),
-        Message::Directory(m) => directory(board, m, texts, table),
-        Message::TradingAction(m) => act(board, m, table),
-        Message::ShortQuote(m) => quote(board, quotes::short(m), table),
-        Message::LongQuote(m) => quote(board, quotes::long(m), table),
-        Message::ShortSide(m) => quote(board, quotes::short_side(m), table),
-        Message::LongSide(m) => quote(board, quotes::long_side(m), table),
-        Message::EndOfReplay(m) => accept(with_live(m.number, board)),
-    }
-}
-
-// A message applied to the table: accepted, with all that it changes, or refused, with nothing changed.
-pub fn apply(board: Board, message: Message, texts: Texts, table: &mut [u8]) -> Applied
-    ensures { λ r. ⌜ outcome r (now (table .exit)) ≡ applyOf board message texts (now (table .entry)) ⌝ }
-{
-    if rows_fit(board.rows, table) {
-        return dispatch(board, message, texts, table);
-    }
-    refuse(Refusal::Unfit, board)
 }

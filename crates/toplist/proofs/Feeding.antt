@@ -23,7 +23,7 @@ use Rattle.reader.specs.Calls.{Stepping, stepAll, unfit}
 use Rattle.reader.specs.declared.Reader.{Reader}
 use Rattle.reader.specs.declared.Stepped.{Stepped}
 use Rattle.demands.specs.Sound.{Ours}
-use Rattle.demands.proofs.Bytes.{bytes-drop}
+use Rattle.packet.proofs.Bytes.{bytes-drop}
 use Rattle.demands.proofs.Kept.{ours-within, stepping-is, step-ours}
 use Rattle.demands.proofs.Callers.{unfinished-in, gets-on}
 use Rattle.toplist.specs.Feeding as feeding

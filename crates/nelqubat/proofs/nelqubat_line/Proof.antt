@@ -21,7 +21,7 @@ returns-2 c =
     let at-if1 = at-read-head .before in
     let at-keeps = at-if1 .before in
     let start = at-keeps .before .before .before .before in
-    line-goes (now (start .args .handle)) (now (start .args .table)) (at-keeps .keeps-limits .ensures) (start .args .k) (now (start .args .out)) (at-if1 .if1 .left) (at-read-head .read-head .result) (at-read-head .read-head .ensures) (at-ending .ending-for .result) (at-line .line .result) _ (at-ending .ending-for .ensures) (at-line .line .ensures .0) (at-put-shown .put-shown .ensures)
+    line-goes (now (start .args .handle)) (now (start .args .table)) (at-keeps .within-limits .ensures) (start .args .k) (now (start .args .out)) (at-if1 .if1 .left) (at-read-head .read-head .result) (at-read-head .read-head .ensures) (at-ending .ending-for .result) (at-line .line .result) _ (at-ending .ending-for .ensures) (at-line .line .ensures .0) (at-put-shown .put-shown .ensures)
 
 pub nelqubat-line-spec : {M : Type 1} → statement M
 nelqubat-line-spec =

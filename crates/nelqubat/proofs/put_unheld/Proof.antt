@@ -7,7 +7,7 @@ use lib.ListN.{length, length-replicate}
 use denote.Ref.{now}
 use Rattle.packet.specs.Frame.{heldSize}
 use Rattle.nelqubat.specs.Host.{noHeld}
-use Rattle.nelqubat.proofs.Heads.{put-over}
+use Rattle.handle.proofs.Laid.{put-over}
 use Rattle.nelqubat.proofs.put_unheld.Statement.{statement}
 use Rattle.nelqubat.proofs.put_unheld.Tie as tie
 

@@ -7,62 +7,85 @@ use Prim.Native.Nat.{_+_, _≤_}
 use lib.ListN.{length}
 use lib.Seq.{length-take-le}
 use denote.Ref.{now}
+use Rattle.field.specs.Bytes.{part}
+use Rattle.field.proofs.Numbers.{Lent}
 use Rattle.packet.specs.Frame.{heldSize}
 use Rattle.packet.proofs.Mend.{room-fits, room-within}
-use Rattle.reader.proofs.Lent.{unheld-fit, mended-past, lent-mended}
+use Rattle.handle.specs.Handle.{handleSize}
+use Rattle.handle.proofs.Rounds.{handle-length}
+use Rattle.reader.proofs.Steps.{unheld-ready, unheld-rows, mended-past, mended-whole}
+use Rattle.reader.proofs.Delivered.{own-long}
 use Rattle.reader.proofs.mended.Statement.{statement}
 use Rattle.reader.proofs.mended.Tie as tie
 
-room-there : (c : tie.After-room) → c .before .before .before .before .args .head .used + c .room .result ≤ heldSize
-room-there c = let s = c .before .before .before .before in room-fits (s .args .head .used) (length (now (s .args .piece))) (s .pre .0 .start) (c .room .ensures)
+size : (s : tie.Start) → length (now (s .args .handle)) ≡ handleSize
+size s = handle-length (now (s .args .handle)) (s .pre .0 .going .handle-is)
+
+lent : (c : tie.After-slice-known) → Lent (now (c .before .args .handle))
+lent c = search (needs, c .slice-known)
+
+start-fits : (s : tie.Start) → s .args .used ≤ heldSize
+start-fits s = rw (s .pre .1 .1) (s .pre .0 .start)
+
+room-there : (c : tie.After-room) → (let s = c .before .before .before .before .before in s .args .used + c .room .result ≤ heldSize)
+room-there c = let s = c .before .before .before .before .before in room-fits (s .args .used) (length (now (s .args .piece))) (start-fits s) (c .room .ensures)
+
+part-joined-end : tie.Need-part-joined-end
+part-joined-end c = omega (arith, size (c .before .before .before .before .before .before))
 
 joined-requires : tie.Need-joined-requires
+unfolding part
 joined-requires c κs =
-    let at-room = c .before in
-    let start = at-room .before .before .before .before in
-    (start .pre .1, (room-there (at-room), room-within (start .args .head .used) (length (now (start .args .piece))) (start .pre .0 .start) (at-room .room .ensures)))
+    let at-room = c .before .before in
+    let start = at-room .before .before .before .before .before in
+    (own-long (now (start .args .handle)) (start .pre .0 .going .handle-is), (room-there at-room, room-within (start .args .used) (length (now (start .args .piece))) (start-fits start) (at-room .room .ensures)))
 
 add-end : tie.Need-add-end
-add-end c =
-    omega (arith, room-there (c .before .before))
+add-end c = omega (arith, room-there (c .before .before .before))
+
+put-used-requires : tie.Need-put-used-requires
+put-used-requires c κs = search (needs, size (c .before .before .before .before .before .before .before .before .before))
 
 array-share-prefix-all : tie.Need-array-share-prefix-all
 array-share-prefix-all c =
-    let at-joined = c .before .before in
+    let at-joined = c .before .before .before .before .before .before in
     let long : length (at-joined .joined .result) ≡ heldSize = search needs in
-    omega (arith, room-there (at-joined .before .before))
+    omega (arith, room-there (c .before .before .before .before .before .before .before .before .before))
 
 slice-aggregate-straight : tie.Need-slice-aggregate-straight
 slice-aggregate-straight c =
-    let at-joined = c .before .before .before in
+    let at-joined = c .before .before .before .before .before .before .before in
     let long : length (at-joined .joined .result) ≡ heldSize = search needs in
-    sym (length-take-le _ _ (omega (arith, room-there (at-joined .before .before))))
+    sym (length-take-le _ _ (omega (arith, room-there (c .before .before .before .before .before .before .before .before .before .before))))
 
 straight-requires : tie.Need-straight-requires
 straight-requires c κs =
-    let at-unheld = c .before .before .before in
-    let start = at-unheld .before .before .before .before .before .before .before in
-    unheld-fit (start .args .head) (at-unheld .unheld .result) (now (start .args .held)) (at-unheld .unheld .ensures) (start .pre .0) (start .pre .1)
+    let at-put = c .before .before .before .before .before .before in
+    let first = at-put .before .before .before .before .before .before .before .before .before in
+    let start = first .before in
+    (unheld-ready (now (start .args .handle)) (now (start .args .table)) (now (start .args .event)) (start .pre .0) (lent first) (at-put .put-used .ensures), unheld-rows (now (start .args .handle)) (now (start .args .table)) (now (start .args .event)) (start .pre .0) (lent first) (at-put .put-used .ensures) (start .pre .1 .0))
 
-fewer-requires : tie.Need-fewer-requires
-fewer-requires c κs =
-    let at-straight = c .before .before .before .before in
-    let at-unheld = at-straight .before .before .before .before in
-    let at-joined = at-unheld .before in
-    let at-room = at-joined .before .before in
-    let start = at-room .before .before .before .before in
-    mended-past (start .args .head) (now (start .args .held)) (now (start .args .piece)) (at-room .room .result) (at-joined .joined .result) (start .pre .1) (start .pre .0) (at-room .room .ensures) (at-joined .joined .ensures) (now (start .args .table)) (at-unheld .unheld .result) (at-straight .straight .result) _ _ (at-unheld .unheld .ensures) (at-straight .straight .ensures)
+sub-result : tie.Need-sub-result
+unfolding part
+sub-result c =
+    let at-put = c .before .before .before .before .before .before .before .before .before .before .before .before .before in
+    let at-joined = at-put .before .before in
+    let at-room = at-joined .before .before .before in
+    let first = at-room .before .before .before .before in
+    let start = first .before in
+    mended-past (now (start .args .handle)) (now (start .args .table)) (now (start .args .event)) (start .pre .0) (lent first) (at-put .put-used .ensures) (now (start .args .piece)) (start .args .used) (at-room .room .result) (at-joined .joined .result) (start .pre .1 .1) (at-room .room .ensures) (at-joined .joined .ensures) (c .before .before .before .before .before .before .straight .ensures)
 
 returns : tie.Need-returns
+unfolding part
 returns c =
-    let at-straight = c .before .before .before .before .before in
-    let at-unheld = at-straight .before .before .before .before in
-    let at-joined = at-unheld .before in
-    let at-room = at-joined .before .before in
-    let start = at-room .before .before .before .before in
-    lent-mended (start .args .head) (now (start .args .held)) (now (start .args .piece)) (at-room .room .result) (at-joined .joined .result) (start .pre .1) (start .pre .0) (at-room .room .ensures) (at-joined .joined .ensures) (now (start .args .table)) (at-unheld .unheld .result) (at-straight .straight .result) (c .fewer .result) _ _ (at-unheld .unheld .ensures) (at-straight .straight .ensures) (c .fewer .ensures)
+    let at-put = c .before .before .before .before .before .before .before .before .before .before .before .before .before in
+    let at-joined = at-put .before .before in
+    let at-room = at-joined .before .before .before in
+    let first = at-room .before .before .before .before in
+    let start = first .before in
+    mended-whole (now (start .args .handle)) (now (start .args .table)) (now (start .args .event)) (start .pre .0) (lent first) (at-put .put-used .ensures) (now (start .args .piece)) (start .args .used) (at-room .room .result) (at-joined .joined .result) (start .pre .1 .1) (at-room .room .ensures) (at-joined .joined .ensures) (c .before .before .before .before .before .before .straight .ensures)
 
 pub mended-spec : {M : Type 1} → statement M
 mended-spec =
     tie.close
-    (tie.spec (λ c κs. search needs) joined-requires add-end (λ c κs. search needs) array-share-prefix-all slice-aggregate-straight straight-requires fewer-requires (λ c. search needs) (λ c. search needs) returns)
+    (tie.spec (λ c κs. search needs) (λ c. search needs) (λ c. search needs) part-joined-end joined-requires add-end put-used-requires array-share-prefix-all slice-aggregate-straight straight-requires (λ c. search needs) (λ c. search needs) sub-result (λ c. search needs) (λ c. search needs) (λ c. search needs) returns)

@@ -1,25 +1,47 @@
--- `reader::Reader::step` meets its contract: it is the step on places that are lent for the call.
+-- `reader::Reader::step` meets its contract.
 -- Assumes nothing.
-use borrow.Author.Needs.{needs}
+use borrow.Author.Needs.{needs, elem-fits}
 use mathlib.Core.Path.{_≡_}
-use lib.ListN.{length}
+use Prim.Native.Nat.{ℕ}
+use lib.ListN.{length, length-replicate}
 use denote.Ref.{now}
+use mir.Syntax.{w8}
+use Rattle.field.specs.Bytes.{Bytes}
 use Rattle.packet.specs.Frame.{heldSize}
-use Rattle.reader.proofs.Lent.{by-value}
+use Rattle.record.specs.Places.{recordSize}
+use Rattle.handle.proofs.Rounds.{HeadFits}
+use Rattle.reader.specs.View.{headPart}
+use Rattle.reader.proofs.Back.{by-value}
 use Rattle.reader.proofs.Reader.step.Statement.{statement}
 use Rattle.reader.proofs.Reader.step.Tie as tie
 
 long : (s : tie.Start) → length (s .args .self .held) ≡ heldSize
 long s = search needs
 
+-- what the code holds has room in its fields
+fits : (s : tie.Start) → HeadFits (headPart (s .args .self))
+fits s =
+    record {
+      session = search needs;
+      next = search needs;
+      live = search needs;
+      rows = search needs;
+      used = search needs;
+      refusal = search needs;
+      event = search needs;
+    }
+
 returns : tie.Need-returns
 returns c =
-    let at-step = c .before .before .before .before .before .before in
-    let at-head = at-step .before .before .before in
-    let start = at-head .before .before .before .before in
-    by-value (start .args .self) (long start) (at-head .head .result) (at-head .head .ensures) (now (start .args .table)) (now (start .args .piece)) (at-step .step .result) _ _ (at-step .step .ensures) (c .with .result) (c .with .ensures)
+    let at-back = c .before .before .before in
+    let at-step = at-back .before .before .before .before .before .before in
+    let at-laid = at-step .before .before .before .before in
+    let start = at-laid .before .before .before in
+    let ok = at-laid .laid .ok in
+    let bytes : Bytes (at-laid .laid .result) = λ i. elem-fits w8 w8 (at-laid .laid .result) (ok .0) i (ok .1 .1) tt .fits in
+    by-value (start .args .self) (c .read .result) (at-laid .laid .result) (now (start .args .table)) (now (start .args .piece)) _ _ _ _ (at-step .step .result) (at-back .read-back .result) (fits start) (long start) (length-replicate {A = ℕ} recordSize 0) bytes (λ i. at-laid .before .before .shared-slice-known .given i .fits) (at-laid .laid .ensures) (at-step .step .ensures .0) (at-back .read-back .ensures) (c .read .ensures)
 
 pub step-spec : {M : Type 1} → statement M
 step-spec =
     tie.close
-    (tie.spec (λ c κs. search needs) (λ c. search needs) (λ c κs. search needs) (λ c κs. search needs) (λ c. search needs) returns)
+    (tie.spec (λ c κs. search needs) (λ c. search needs) (λ c. search needs) (λ c κs. search needs) (λ c. search needs) (λ c κs. search needs) (λ c. search needs) (λ c κs. search needs) (λ c. search needs) (λ c. search needs) returns)

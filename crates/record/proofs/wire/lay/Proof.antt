@@ -12,43 +12,43 @@ use Rattle.record.proofs.wire.lay.Tie as tie
 
 system-event-requires : tie.Need-system-event-requires
 unfolding letters letterAmong
-system-event-requires c κs = let s = c .before .before .before .before .before in (room 83 _ _ (c .before .match .keys1) (s .pre .0), search needs)
+system-event-requires c κs = let s = c .before .before .before .before .before in (room 83 _ _ (c .before .match .keys1) (s .pre .0), s .pre .1)
 
 directory-requires : tie.Need-directory-requires
 unfolding letters letterAmong
-directory-requires c κs = let s = c .before .before .before .before .before in (room 109 _ _ (c .before .match .keys2) (s .pre .0), search needs)
+directory-requires c κs = let s = c .before .before .before .before .before in (room 109 _ _ (c .before .match .keys2) (s .pre .0), s .pre .1)
 
 head-requires : tie.Need-head-requires
 unfolding letters letterAmong
-head-requires c κs = let s = c .before .before .before .before .before in (room 72 _ _ (c .before .match .keys3) (s .pre .0), search needs)
+head-requires c κs = let s = c .before .before .before .before .before in (room 72 _ _ (c .before .match .keys3) (s .pre .0), s .pre .1)
 
 short-quote-requires : tie.Need-short-quote-requires
 unfolding letters letterAmong
-short-quote-requires c κs = let s = c .before .before .before .before .before in (room 113 _ _ (c .before .match .keys4) (s .pre .0), search needs)
+short-quote-requires c κs = let s = c .before .before .before .before .before in (room 113 _ _ (c .before .match .keys4) (s .pre .0), s .pre .1)
 
 long-quote-requires : tie.Need-long-quote-requires
 unfolding letters letterAmong
-long-quote-requires c κs = let s = c .before .before .before .before .before in (room 81 _ _ (c .before .match .keys5) (s .pre .0), search needs)
+long-quote-requires c κs = let s = c .before .before .before .before .before in (room 81 _ _ (c .before .match .keys5) (s .pre .0), s .pre .1)
 
 short-side-requires : tie.Need-short-side-requires
 unfolding letters letterAmong
-short-side-requires c κs = let s = c .before .before .before .before .before in (room 98 _ _ (c .before .match .keys6) (s .pre .0), search needs)
+short-side-requires c κs = let s = c .before .before .before .before .before in (room 98 _ _ (c .before .match .keys6) (s .pre .0), s .pre .1)
 
 short-side-requires-2 : tie.Need-short-side-requires-2
 unfolding letters letterAmong
-short-side-requires-2 c κs = let s = c .before .before .before .before .before in (room 97 _ _ (c .before .match .keys7) (s .pre .0), search needs)
+short-side-requires-2 c κs = let s = c .before .before .before .before .before in (room 97 _ _ (c .before .match .keys7) (s .pre .0), s .pre .1)
 
 long-side-requires : tie.Need-long-side-requires
 unfolding letters letterAmong
-long-side-requires c κs = let s = c .before .before .before .before .before in (room 66 _ _ (c .before .match .keys8) (s .pre .0), search needs)
+long-side-requires c κs = let s = c .before .before .before .before .before in (room 66 _ _ (c .before .match .keys8) (s .pre .0), s .pre .1)
 
 long-side-requires-2 : tie.Need-long-side-requires-2
 unfolding letters letterAmong
-long-side-requires-2 c κs = let s = c .before .before .before .before .before in (room 65 _ _ (c .before .match .keys9) (s .pre .0), search needs)
+long-side-requires-2 c κs = let s = c .before .before .before .before .before in (room 65 _ _ (c .before .match .keys9) (s .pre .0), s .pre .1)
 
 end-of-replay-requires : tie.Need-end-of-replay-requires
 unfolding letters letterAmong
-end-of-replay-requires c κs = let s = c .before .before .before .before .before in let r = c .before .match .rest in (room 77 _ _ (last-arm _ (r .0 .0 .0 .0 .0 .0 .0 .0 .1) (r .0 .0 .0 .0 .0 .0 .0 .1) (r .0 .0 .0 .0 .0 .0 .1) (r .0 .0 .0 .0 .0 .1) (r .0 .0 .0 .0 .1) (r .0 .0 .0 .1) (r .0 .0 .1) (r .0 .1) (r .1) (s .pre .0 .isListed)) (s .pre .0), search needs)
+end-of-replay-requires c κs = let s = c .before .before .before .before .before in let r = c .before .match .rest in (room 77 _ _ (last-arm _ (r .0 .0 .0 .0 .0 .0 .0 .0 .1) (r .0 .0 .0 .0 .0 .0 .0 .1) (r .0 .0 .0 .0 .0 .0 .1) (r .0 .0 .0 .0 .0 .1) (r .0 .0 .0 .0 .1) (r .0 .0 .0 .1) (r .0 .0 .1) (r .0 .1) (r .1) (s .pre .0 .isListed)) (s .pre .0), s .pre .1)
 
 returns : tie.Need-returns
 unfolding letters recordLetters letterAmong

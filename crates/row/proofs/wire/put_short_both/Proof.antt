@@ -1,7 +1,7 @@
 -- `row::wire::put_short_both` meets its contract.
 -- Assumes nothing.
 use borrow.Author.Needs.{needs}
-use Rattle.row.proofs.Wired.{both-early}
+use Rattle.row.proofs.Puts.{both-put}
 use Rattle.row.proofs.wire.put_short_both.Statement.{statement}
 use Rattle.row.proofs.wire.put_short_both.Tie as tie
 
@@ -14,7 +14,7 @@ returns c =
     let b = a .before in
     let i = b .before .before in
     let s = i .before .before .before .before in
-    both-early (s .args .row .now) _ _ (i .sides .result) (i .sides .ensures) (b .seen-with .ensures) (a .seen-with2 .ensures) (w .write1 .ensures) (n1 .put-short .ensures) (n2 .put-short2 .ensures)
+    both-put (s .args .row .now) _ _ (i .sides .result) (i .sides .ensures) (b .seen-with .ensures) (a .seen-with2 .ensures) (w .write1 .ensures) (n1 .put-short .ensures) (n2 .put-short2 .ensures)
 
 pub put-short-both-spec : {M : Type 1} → statement M
 put-short-both-spec =

@@ -1,12 +1,12 @@
 -- `row::wire::put_short_side` meets its contract.
 -- Assumes nothing.
 use borrow.Author.Needs.{needs}
-use Rattle.row.proofs.Wired.{side-early}
+use Rattle.row.proofs.Puts.{side-put}
 use Rattle.row.proofs.wire.put_short_side.Statement.{statement}
 use Rattle.row.proofs.wire.put_short_side.Tie as tie
 
 returns : tie.Need-returns
-returns c = search (side-early, needs)
+returns c = search (side-put, needs)
 
 pub put-short-side-spec : {M : Type 1} → statement M
 put-short-side-spec =

@@ -1,0 +1,165 @@
+-- The ways through a whole packet on a handle where it lies: a law for each.
+-- Assumes nothing.
+use mathlib.Core.Path.{_≡_, refl, sym, ap, _∙_}
+use mathlib.Core.Bool.{Bool, true, false}
+use mathlib.Core.List.{List}
+use Prim.Native.Nat.{ℕ, _+_, _*_, _≤_, _<_}
+use native.Mathlib.Omega.{arith}
+use lib.ListN.{length}
+use Rattle.field.specs.Bytes.{part, overlay, bytesBe}
+use Rattle.field.specs.Limits.{highestNumber}
+use Rattle.field.proofs.Parts.{part-length, overlay-own, overlay-next}
+use Rattle.field.proofs.Numbers.{Lent, digits-length}
+use Rattle.packet.specs.Frame.{heldSize}
+use Rattle.packet.specs.Line.{loginSession, loggedIn, packetOf, isMessage}
+use Rattle.packet.specs.Refusals.{faultNumber}
+use Rattle.packet.specs.Stream as stream
+use Rattle.packet.specs.Session.{Session, Event, delivered, does, soupBinTCP}
+use Rattle.packet.specs.declared.Line.{Line}
+use Rattle.packet.specs.declared.Fault.{Fault}
+use Rattle.packet.specs.declared.Packet.{Packet}
+use Rattle.packet.specs.declared.Packet.the-variants as packet
+use Rattle.packet.proofs.Rules.{never}
+use Rattle.table.specs.declared.Board.{Board}
+use Rattle.record.specs.Places.{recordSize}
+use Rattle.handle.specs.Handle.{headSize, handleSize, isHandle, headOf, headBytes, handleBytes, placesIn, withLine, endedField, refusalField, withField}
+use Rattle.handle.specs.declared.Head.{Head}
+use Rattle.handle.proofs.Rounds.{handle-length}
+use Rattle.handle.proofs.Laid.{put-over}
+use Rattle.handle.proofs.Single.{ended-put, refusal-put}
+use Rattle.reader.specs.Refusals.{refusalNumber}
+use Rattle.reader.specs.Deliver.{Table, tableOf, Said, deliver}
+use Rattle.reader.specs.Handles.{loginBytes, toldEvent, told, hostStepped}
+use Rattle.reader.specs.Shapes.{Ready, sessionAt, closedAs}
+use Rattle.reader.specs.declared.Refusal.{Refusal}
+use Rattle.reader.proofs.Ways.{message-counts}
+use Rattle.reader.proofs.Delivered.{own-ten, own-long, own}
+
+-- ---- a login
+
+pub logged-laid : (handle body : List ℕ) (h : Head) (l : Line) {handle′ : List ℕ} → h ≡ headOf handle → l ≡ loggedIn (h .line) (loginSession body)
+    → handle′ ≡ overlay handle 0 (headBytes (record { line = l; board = h .board; ended = h .ended; refusal = h .refusal; used = h .used }))
+    → handle′ ≡ overlay handle 0 (headBytes (withLine (loggedIn (headOf handle .line) (loginSession body)) (headOf handle)))
+logged-laid handle body h l e f g =
+    g ∙ ap (λ (x : Line). overlay handle 0 (headBytes (withLine x h))) f
+    ∙ ap (λ (x : Head). overlay handle 0 (headBytes (withLine (loggedIn (x .line) (loginSession body)) x))) e
+
+pub login-told : (n : ℕ) (body memory : List ℕ) {first after : List ℕ} → length memory ≡ recordSize → 10 ≤ length body → first ≡ overlay memory 0 (bytesBe 8 n)
+    → after ≡ overlay first 8 (part body 0 10) → after ≡ overlay memory 0 (loginBytes n (loginSession body))
+login-told n body memory l m e f =
+    let w : length (bytesBe 8 n) ≡ 8 = digits-length 256 8 n in
+    let k : length (part body 0 10) ≡ 10 = part-length body 0 10 m in
+    f ∙ ap (λ (x : List ℕ). overlay x 8 (part body 0 10)) e ∙ (rw w at (overlay-next memory 0 (bytesBe 8 n) (part body 0 10) (omega (arith, w, l, k))))
+
+-- ---- any packet but a message
+
+module _ (handle event : List ℕ) (r : (t : List ℕ) × Ready handle t event) (lent : Lent handle) (letter : ℕ) (body : List ℕ) where
+  abbrev h : Head
+  h = headOf handle
+
+  abbrev held : List ℕ
+  held = placesIn handle
+
+  is : isHandle handle ≡ true
+  is = r .1 .going .handle-is
+
+  -- nothing is held, and it has neither ended nor refused
+  abbrev idle : Line → Head
+  idle l = record { line = l; board = h .board; ended = false; refusal = 0; used = 0 }
+
+  idle-is : (l : Line) → withLine l h ≡ idle l
+  idle-is l i = record { line = l; board = h .board; ended = r .1 .going .live i; refusal = r .1 .going .unrefused i; used = r .1 .unheld i }
+
+  idle-here : handle ≡ handleBytes (idle (h .line)) held
+  idle-here = own handle is lent ∙ ap (λ (x : Head). handleBytes x held) (idle-is (h .line))
+
+  module _ {p : Packet} (e : p ≡ packetOf (h .line) letter body) where
+    acts : {q : Packet} (t : List ℕ) → p ≡ q
+        → closedAs (does deliver (sessionAt handle t) body q) handle event ≡ closedAs (soupBinTCP deliver (sessionAt handle t) letter body) handle event
+    unfolding soupBinTCP
+    acts t f = ap (λ (x : Packet). closedAs (does deliver (sessionAt handle t) body x) handle event) (sym f ∙ e)
+
+    pub other-login : {n : ℕ} {handle′ event′ : List ℕ} → 10 ≤ length body → p ≡ packet.Login n
+        → handle′ ≡ overlay handle 0 (headBytes (withLine (loggedIn (h .line) (loginSession body)) h))
+        → event′ ≡ overlay event 0 (loginBytes n (loginSession body)) → (t : List ℕ)
+        → hostStepped 256 handle′ t event′ ≡ closedAs (soupBinTCP deliver (sessionAt handle t) letter body) handle event
+    unfolding told toldEvent
+    other-login {n} l f g k t =
+        let line : Line = loggedIn (h .line) (loginSession body) in
+        let size = handle-length handle is in
+        let put = put-over (withLine line h) handle held handle _ (part-length body 0 10 l) size (own-long handle is) (sym (overlay-own handle headSize heldSize (omega (arith, size)))) g in
+        (λ i. hostStepped 256 (put i) t (k i))
+        ∙ ap (λ (x : Head). hostStepped 256 (handleBytes x held) t (overlay event 0 (loginBytes n (loginSession body)))) (idle-is line) ∙ acts t f
+
+    pub other-rejected : {n : ℕ} {handle′ event′ : List ℕ} → p ≡ packet.Rejected n → handle′ ≡ withField endedField 1 handle → event′ ≡ overlay event 0 (bytesBe 1 n)
+        → (t : List ℕ) → hostStepped 512 handle′ t event′ ≡ closedAs (soupBinTCP deliver (sessionAt handle t) letter body) handle event
+    unfolding told toldEvent
+    other-rejected f g k t =
+        let put = ended-put (idle (h .line)) held (own-ten handle is) idle-here g in
+        (λ i. hostStepped 512 (put i) t (k i)) ∙ acts t f
+
+    pub other-heartbeat : p ≡ packet.Heartbeat → (t : List ℕ)
+        → hostStepped 1024 handle t event ≡ closedAs (soupBinTCP deliver (sessionAt handle t) letter body) handle event
+    unfolding told toldEvent
+    other-heartbeat f t = ap (λ (x : List ℕ). hostStepped 1024 x t event) idle-here ∙ acts t f
+
+    pub other-end : {handle′ : List ℕ} → p ≡ packet.End → handle′ ≡ withField endedField 1 handle → (t : List ℕ)
+        → hostStepped 1280 handle′ t event ≡ closedAs (soupBinTCP deliver (sessionAt handle t) letter body) handle event
+    unfolding told toldEvent
+    other-end f g t =
+        ap (λ (x : List ℕ). hostStepped 1280 x t event) (ended-put (idle (h .line)) held (own-ten handle is) idle-here g) ∙ acts t f
+
+    pub other-skipped : p ≡ packet.Skipped → (t : List ℕ)
+        → hostStepped 1536 handle t event ≡ closedAs (soupBinTCP deliver (sessionAt handle t) letter body) handle event
+    unfolding told toldEvent
+    other-skipped f t = ap (λ (x : List ℕ). hostStepped 1536 x t event) idle-here ∙ acts t f
+
+    pub other-refused : {d : Fault} (x : Refusal) {n a : ℕ} {handle′ : List ℕ} → p ≡ packet.Refused d → refusalNumber x ≡ faultNumber d → n ≡ refusalNumber x
+        → a ≡ 2048 + n → handle′ ≡ withField refusalField n handle → (t : List ℕ)
+        → hostStepped a handle′ t event ≡ closedAs (soupBinTCP deliver (sessionAt handle t) letter body) handle event
+    unfolding told
+    other-refused {d} x {n} {a} f k j m g t =
+        let same : n ≡ faultNumber d = j ∙ k in
+        let put = refusal-put (idle (h .line)) held (own-ten handle is) idle-here n g in
+        let count : a ≡ 2048 + n + 0 * 65_536 = omega (arith, m) in
+        (λ i. hostStepped (count i) (put i) t event)
+        ∙ (λ i. hostStepped (2048 + same i + 0 * 65_536)
+        (handleBytes (record { line = h .line; board = h .board; ended = false; refusal = same i; used = 0 }) held) t event)
+        ∙ acts t f
+
+    -- a message is none of them
+    pub other-never : {A : Type 0} → p ≡ packet.Message → isMessage (packetOf (h .line) letter body) ≡ false → A
+    other-never f g = absurd (never (sym g ∙ ap isMessage (sym e ∙ f)))
+
+-- ---- any packet
+
+is-message : (p : Packet) → isMessage p ≡ true → p ≡ packet.Message
+is-message (packet.Login n) e = absurd (never e)
+is-message (packet.Rejected n) e = absurd (never e)
+is-message packet.Message e = refl
+is-message packet.Heartbeat e = absurd (never e)
+is-message packet.End e = absurd (never e)
+is-message packet.Skipped e = absurd (never e)
+is-message (packet.Refused f) e = absurd (never e)
+
+module _ (handle table event : List ℕ) (g : Ready handle table event) (letter : ℕ) (body : List ℕ) {next : ℕ} {logged b : Bool}
+    (n : next ≡ headOf handle .line .next) (l : logged ≡ headOf handle .line .logged)
+    (w : (x : Line) (y : List ℕ) → x .logged ≡ logged → x .next ≡ next → b ≡ isMessage (packetOf x letter y)) where
+  found : b ≡ isMessage (packetOf (headOf handle .line) letter body)
+  found = w (headOf handle .line) body (sym l) (sym n)
+
+  -- a message has a number to take
+  pub act-counts : b ≡ true → next < highestNumber
+  act-counts e =
+      omega (arith, n, message-counts (headOf handle .line) letter body refl (is-message (packetOf (headOf handle .line) letter body) (sym found ∙ e)) (g .going .most))
+
+  pub act-message : {a : ℕ} {handle′ table′ event′ : List ℕ} → b ≡ true
+      → hostStepped a handle′ table′ event′ ≡ closedAs (delivered (headOf handle .line) (deliver (tableOf (headOf handle .board) table) body)) handle event
+      → hostStepped a handle′ table′ event′ ≡ closedAs (soupBinTCP deliver (sessionAt handle table) letter body) handle event
+  unfolding soupBinTCP
+  act-message e f =
+      f ∙ ap (λ (p : Packet). closedAs (does deliver (sessionAt handle table) body p) handle event)
+      (sym (is-message (packetOf (headOf handle .line) letter body) (sym found ∙ e)))
+
+  pub act-other : b ≡ false → isMessage (packetOf (headOf handle .line) letter body) ≡ false
+  act-other e = sym found ∙ e

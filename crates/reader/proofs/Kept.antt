@@ -1,0 +1,281 @@
+-- The limits of a handle, and the ways through starting, saving and restoring.
+-- Assumes nothing.
+use mathlib.Core.Path.{_≡_, refl, sym, ap}
+use mathlib.Core.List.{List, [], _∷_}
+use mathlib.Core.Bool.{Bool, true, false, not, _&&_, _||_}
+use Prim.Native.Nat.{ℕ, _+_, _≤_, _<_}
+use native.Mathlib.Omega.{arith}
+use borrow.Author.Tests.{eqb-true, eqb-false, leb-true, eq-eqb, ne-eqb, le-leb, lt-leb}
+use lib.Dec.{eqb, leb}
+use lib.ListN.{length, take, drop}
+use lib.Seq.{length-take-le}
+use Rattle.field.specs.Bytes.{part}
+use Rattle.field.specs.Limits.{highestNumber, numberInRange}
+use Rattle.field.proofs.Parts.{part-length}
+use Rattle.packet.specs.Frame.{Framed, short, badLength, packet, frame, frontOf, heldSize}
+use Rattle.packet.specs.Stream.{stepOf}
+use Rattle.packet.specs.Line.{freshLine, waiting}
+use Rattle.packet.specs.declared.Line.{Line}
+use Rattle.packet.specs.Session.{soupBinTCP}
+use Rattle.packet.specs.declared.Framing.{Framing}
+use Rattle.packet.specs.declared.Framing.the-variants.{Short, BadLength, Whole}
+use Rattle.packet.proofs.Frame.{short-there, bad-there, whole-there}
+use Rattle.packet.proofs.Rules.{both, and-both, not-call, not-not-call, never}
+use Rattle.handle.specs.Handle.{headSize, handleSize, isHandle, headOf}
+use Rattle.handle.specs.declared.Head.{Head}
+use Rattle.handle.proofs.Rounds.{handle-length}
+use Rattle.table.specs.Memory.{rowsFit}
+use Rattle.table.specs.Board as tables
+use Rattle.table.specs.Board.{fits, outcome, startOf}
+use Rattle.table.specs.declared.Applied.{Applied}
+use Rattle.table.specs.declared.Refusal as tableRefusal
+use Rattle.table.specs.declared.Verdict.the-variants as table
+use Rattle.image.specs.Save.{saving, saveOf}
+use Rattle.image.specs.Restore.{restoring, restoreOf}
+use Rattle.image.specs.declared.Header.{Header}
+use Rattle.image.specs.declared.Refusal.the-variants as images
+use Rattle.image.specs.declared.Saved.{Saved}
+use Rattle.image.specs.declared.Saved.the-variants as saved
+use Rattle.image.specs.declared.Restored as image
+use Rattle.reader.specs.Refusals.{refusalNumber, standing, standingRefusals, namedIn, named}
+use Rattle.reader.specs.Deliver.{deliver}
+use Rattle.reader.specs.View.{readerWith, heldOf, stateOf, seen, stillOf, readyOf}
+use Rattle.reader.specs.Limits.{isShort, unfinished, holdsUnfinished, withinLimits, lentWithin, headWith}
+use Rattle.reader.specs.Calls.{stepAll, Stepping, startAll, Starting}
+use Rattle.reader.specs.Handles.{readerIn, hostWithin}
+use Rattle.reader.specs.Saving.{headerOf, writtenBy, saveAll, Saves, lineOf, restoreAll, Restores}
+use Rattle.reader.specs.declared.Refusal.{Refusal}
+use Rattle.reader.specs.declared.Reader.{Reader}
+use Rattle.reader.specs.declared.StepAnswer.the-variants as answer
+use Rattle.reader.specs.declared.StartAnswer.the-variants as started
+
+-- ---- what is held
+
+module _ (r : Reader) where
+  pub held-over : heldSize < r .used → false ≡ holdsUnfinished r
+  unfolding holdsUnfinished
+  held-over h = rw (lt-leb (r .used) heldSize h)
+
+  pub held-short : {w : Framing} → r .used ≤ heldSize → w ≡ frontOf (frame (heldOf r)) → w ≡ Short → true ≡ holdsUnfinished r
+  unfolding holdsUnfinished unfinished
+  held-short h e f = rw (le-leb (r .used) heldSize h, short-there (heldOf r) e f)
+
+  pub held-bad : {w : Framing} → r .used ≤ heldSize → w ≡ frontOf (frame (heldOf r)) → w ≡ BadLength → false ≡ holdsUnfinished r
+  unfolding holdsUnfinished unfinished
+  held-bad h e f = rw (le-leb (r .used) heldSize h, bad-there (heldOf r) e f .is)
+
+  pub held-whole : {w : Framing} {n : ℕ} → r .used ≤ heldSize → w ≡ frontOf (frame (heldOf r)) → w ≡ Whole n → false ≡ holdsUnfinished r
+  unfolding holdsUnfinished unfinished
+  held-whole h e f = rw (le-leb (r .used) heldSize h, whole-there (heldOf r) e f .is)
+
+short-is : (f : Framed) → isShort f ≡ true → f ≡ short
+short-is short e = refl
+short-is (badLength rest) e = absurd (never e)
+short-is (packet letter body rest) e = absurd (never e)
+
+pub unfinished-short : (bs : List ℕ) → unfinished bs ≡ true → frame bs ≡ short
+unfolding unfinished
+unfinished-short bs e = short-is (frame bs) e
+
+-- ---- the limits, in their order
+
+module _ (rows next used refusal : ℕ) (held memory : List ℕ) where
+  abbrev h : Head
+  h = headWith rows next used refusal
+
+  pub within-places : (length held ≡ heldSize → ⊥) → false ≡ lentWithin h held memory
+  unfolding lentWithin
+  within-places l = rw (ne-eqb (length held) heldSize l)
+
+  module _ (l : length held ≡ heldSize) where
+    lent-as : {b : Bool} → b ≡ withinLimits (readerWith h held) memory → b ≡ lentWithin h held memory
+    unfolding lentWithin
+    lent-as e = rw (eq-eqb (length held) heldSize l) e
+
+    module _ {a : Bool} (e : a ≡ rowsFit rows memory) where
+      pub within-fit : not a ≡ true → false ≡ lentWithin h held memory
+      unfolding withinLimits fits
+      within-fit f = lent-as (rw (not-call a (rowsFit rows memory) e f))
+
+      module _ (n : not a ≡ false) {b : Bool} (f : b ≡ numberInRange next) where
+        fitting : fits (h .board) memory ≡ true
+        unfolding fits
+        fitting = not-not-call a (rowsFit rows memory) e n
+
+        pub within-number : not b ≡ true → false ≡ lentWithin h held memory
+        unfolding withinLimits
+        within-number g = lent-as (rw (fitting, not-call b (numberInRange next) f g))
+
+        module _ (g : not b ≡ false) where
+          -- nothing is held, and no refusal stands
+          pub within-ready : eqb used 0 && eqb refusal 0 ≡ true → true ≡ lentWithin h held memory
+          unfolding withinLimits holdsUnfinished unfinished frame standing
+          within-ready i =
+              let z = and-both (eqb used 0) (eqb refusal 0) i in
+              lent-as (rw (fitting, not-not-call b (numberInRange next) f g, eqb-true used 0 (z .0), eqb-true refusal 0 (z .1)))
+
+          module _ {d : Bool} (i : d ≡ holdsUnfinished (readerWith (headWith 0 0 used 0) held)) where
+            holds-as : d ≡ holdsUnfinished (readerWith h held)
+            unfolding holdsUnfinished
+            holds-as = i
+
+            pub within-held : not d ≡ true → false ≡ lentWithin h held memory
+            unfolding withinLimits
+            within-held j =
+                lent-as (rw (fitting, not-not-call b (numberInRange next) f g, not-call d (holdsUnfinished (readerWith h held)) holds-as j))
+
+            pub within-stands : {s : Bool} → not d ≡ false → s ≡ standing refusal → s ≡ lentWithin h held memory
+            unfolding withinLimits
+            within-stands j k =
+                lent-as (rw (fitting, not-not-call b (numberInRange next) f g, not-not-call d (holdsUnfinished (readerWith h held)) holds-as j) k)
+
+-- the numbers of a reader are all that the limits ask of its head
+pub limits-of : (r : Reader) (memory : List ℕ) {w : Bool} → length (r .held) ≡ heldSize
+    → w ≡ lentWithin (headWith (r .board .rows) (r .line .next) (r .used) (r .refusal)) (r .held) memory → w ≡ withinLimits r memory
+unfolding lentWithin withinLimits holdsUnfinished fits
+limits-of r memory l e = rw (eq-eqb (length (r .held)) heldSize l) at e
+
+-- ---- the limits of a handle where it lies
+
+pub handle-long : (handle : List ℕ) {w : Bool} → w ≡ isHandle handle → not w ≡ false → length handle ≡ handleSize
+handle-long handle {w} e f = handle-length handle (not-not-call w (isHandle handle) e f)
+
+module _ (handle table : List ℕ) {w : Bool} (e : w ≡ isHandle handle) where
+  pub host-none : not w ≡ true → false ≡ hostWithin handle table
+  unfolding hostWithin
+  host-none f = rw (not-call w (isHandle handle) e f)
+
+  pub host-kept : {b : Bool} (rows next used refusal : ℕ) → not w ≡ false → rows ≡ headOf handle .board .rows → next ≡ headOf handle .line .next
+      → used ≡ headOf handle .used → refusal ≡ headOf handle .refusal
+      → b ≡ lentWithin (headWith rows next used refusal) (take heldSize (drop headSize handle)) table → b ≡ hostWithin handle table
+  unfolding hostWithin part
+  host-kept rows next used refusal f g i j k m =
+      rw (not-not-call w (isHandle handle) e f)
+      (limits-of (readerIn handle) table (part-length handle headSize heldSize (omega (arith, handle-long handle e f))) (rw (g, i, j, k) at m))
+
+-- what a handle within its limits has
+pub record Within (r : Reader) (memory : List ℕ) : Type 0 where
+  pub fitted : fits (r .board) memory ≡ true
+  pub some : 1 ≤ r .line .next
+  pub most : r .line .next ≤ highestNumber
+  pub start : r .used ≤ heldSize
+  pub short : frame (heldOf r) ≡ short
+  pub stands : standing (r .refusal) ≡ true
+
+pub within : (r : Reader) (memory : List ℕ) → withinLimits r memory ≡ true → Within r memory
+unfolding withinLimits holdsUnfinished
+within r memory e =
+    let a = and-both (fits (r .board) memory) _ e in
+    let b = and-both (numberInRange (r .line .next)) _ (a .1) in
+    let n = and-both (leb 1 (r .line .next)) (leb (r .line .next) highestNumber) (b .0) in
+    let c = and-both (holdsUnfinished r) (standing (r .refusal)) (b .1) in
+    let h = and-both (leb (r .used) heldSize) (unfinished (heldOf r)) (c .0) in
+    record {
+      fitted = a .0;
+      some = leb-true 1 (r .line .next) (n .0);
+      most = leb-true (r .line .next) highestNumber (n .1);
+      start = leb-true (r .used) heldSize (h .0);
+      short = unfinished-short (heldOf r) (h .1);
+      stands = c .1;
+    }
+
+-- ---- names and numbers of standing refusals
+
+abbrev DiffersFrom : List Refusal → ℕ → Type 0
+DiffersFrom [] n = Unit
+DiffersFrom (r ∷ rs) n = (n ≡ refusalNumber r → ⊥) × DiffersFrom rs n
+
+-- a number that does not differ from all of a list is that of its name in it
+named-in : (rs : List Refusal) (n : ℕ) → (DiffersFrom rs n → ⊥) → refusalNumber (namedIn rs n) ≡ n
+unfolding namedIn
+named-in [] n h = absurd (h tt)
+named-in (r ∷ rs) n h =
+    both (λ (x : Refusal). refusalNumber x ≡ n) (eqb n (refusalNumber r)) (λ e. sym (eqb-true n (refusalNumber r) e))
+    (λ e. named-in rs n (λ d. h (eqb-false n (refusalNumber r) e, d)))
+
+above : (n k : ℕ) → k ≤ n → (n ≡ k → ⊥) → k + 1 ≤ n
+above n k h d = omega arith
+
+low : (n : ℕ) → n ≤ 6 → 1 ≤ n → DiffersFrom standingRefusals n → ⊥
+low n h k d =
+    let a : 4 ≤ n = above n 3 (above n 2 (above n 1 k (d .0)) (d .1 .0)) (d .1 .1 .0) in
+    let b : 7 ≤ n = above n 6 (above n 5 (above n 4 a (d .1 .1 .1 .0)) (d .1 .1 .1 .1 .0)) (d .1 .1 .1 .1 .1 .0) in
+    omega arith
+
+high : (n : ℕ) → n ≤ 16 → 10 ≤ n → DiffersFrom standingRefusals n → ⊥
+high n h k d =
+    let m = d .1 .1 .1 .1 .1 .1 in
+    let a : 13 ≤ n = above n 12 (above n 11 (above n 10 k (m .0)) (m .1 .0)) (m .1 .1 .0) in
+    let t = m .1 .1 .1 in
+    let b : 17 ≤ n = above n 16 (above n 15 (above n 14 (above n 13 a (t .0)) (t .1 .0)) (t .1 .1 .0)) (t .1 .1 .1 .0) in
+    omega arith
+
+-- a number that may stand, and is some, is that of its name
+pub named-number : (n : ℕ) → standing n ≡ true → (n ≡ 0 → ⊥) → refusalNumber (named n) ≡ n
+unfolding standing named
+named-number n s h = named-in standingRefusals n (λ d. by (leb n 6) refl d s)
+  where
+    by : (t : Bool) → leb n 6 ≡ t → DiffersFrom standingRefusals n → t || (leb 10 n && leb n 16) ≡ true → ⊥
+    by true e d g = let l = leb-true n 6 e in low n l (omega arith) d
+    by false e d g = let b = and-both (leb 10 n) (leb n 16) g in high n (leb-true n 16 (b .1)) (leb-true 10 n (b .0)) d
+
+-- ---- a step that takes nothing
+
+module _ (r : Reader) (memory piece : List ℕ) (e : withinLimits r memory ≡ true) where
+  held : Within r memory
+  held = within r memory e
+
+  goes : stepAll r memory piece ≡ seen (stepOf (soupBinTCP deliver) (stateOf r memory) piece)
+  unfolding stepAll
+  goes = rw e
+
+  module _ (long : length (r .held) ≡ heldSize) where
+    held-length : length (heldOf r) ≡ r .used
+    held-length = length-take-le (r .used) (r .held) (omega (arith, held .start))
+
+    pub step-refused : (r .refusal ≡ 0 → ⊥) → Stepping r memory piece (stillOf r (answer.Refused (named (r .refusal)))) memory
+    unfolding stepOf
+    step-refused h = rw (goes, named-number (r .refusal) (held .stands) h) (simp (ne-eqb (r .refusal) 0 h, held-length))
+
+    pub step-ended : r .refusal ≡ 0 → r .ended ≡ true → Stepping r memory piece (stillOf r answer.Ended) memory
+    unfolding stepOf
+    step-ended h k = rw goes (simp (eq-eqb (r .refusal) 0 h, k, held-length))
+
+-- ---- the ways through starting
+
+module _ (memory after : List ℕ) (a : Applied) (l : Line) (r : Reader) (e : outcome a after ≡ startOf memory) (i : l ≡ freshLine) (f : r ≡ readyOf l (a .board)) where
+  pub start-ready : a .verdict ≡ table.Accepted → Starting memory (record { reader = r; answer = started.Ready }) after
+  unfolding startAll
+  start-ready g = rw (f, i, ← e, g)
+
+  pub start-refused : {d : tableRefusal.Refusal} (x : Refusal) → a .verdict ≡ table.Refused d → refusalNumber x ≡ tables.refusalNumber d
+      → Starting memory (record { reader = r; answer = started.Refused x }) after
+  unfolding startAll
+  start-refused x g h = rw (f, i, ← e, g, h)
+
+-- ---- the ways through saving and restoring
+
+module _ (r : Reader) (memory out : List ℕ) {w : Bool} (l : length (r .held) ≡ heldSize)
+    (k : w ≡ lentWithin (headWith (r .board .rows) (r .line .next) (r .used) (r .refusal)) (r .held) memory) where
+  e : w ≡ withinLimits r memory
+  e = limits-of r memory l k
+
+  pub save-unfit : not w ≡ true → Saves r memory out (saved.Unsaved images.Unfit) out
+  unfolding saveAll
+  save-unfit f = rw (not-call w (withinLimits r memory) e f)
+
+  pub save-goes : (a : Saved) (after : List ℕ) → not w ≡ false → saving a after ≡ saveOf (headerOf r) memory out → Saves r memory out a after
+  unfolding saveAll
+  save-goes a after f g = rw (not-not-call w (withinLimits r memory) e f) (ap writtenBy g)
+
+module _ (h : Header) where
+  pub line-known : {l : Line} → h .known ≡ true → l ≡ waiting (h .session) (h .next) → l ≡ lineOf h
+  line-known k e = rw k e
+
+  pub line-fresh : {l : Line} → h .known ≡ false → l ≡ freshLine → l ≡ lineOf h
+  line-fresh k e = rw k e
+
+pub restore-goes : (bytes memory after : List ℕ) (b : image.Restored) (l : Line) (r : Reader) → restoring b after ≡ restoreOf bytes memory
+    → l ≡ lineOf (b .header) → r ≡ readyOf l (b .header .board) → Restores bytes memory (record { reader = r; verdict = b .verdict }) after
+unfolding restoreAll
+restore-goes bytes memory after b l r e f g = rw (g, f, ← e)

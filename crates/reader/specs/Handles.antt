@@ -1,0 +1,162 @@
+-- A step on memory that the host lends: what it answers, and every byte of handle, table and event memory that it leaves.
+-- Assumes nothing.
+use Prim.Native.Nat.{ℕ, _+_, _*_, _/_, _%_}
+use mathlib.Core.Path.{_≡_}
+use mathlib.Core.Bool.{Bool, true, false, _&&_, cond}
+use mathlib.Core.List.{List, _++_}
+use lib.Dec.{eqb}
+use lib.ListN.{length}
+use Rattle.field.specs.Bytes.{part, overlay, be, bytesBe}
+use Rattle.message.specs.declared.Texts.{Texts}
+use Rattle.packet.specs.Stream as stream
+use Rattle.packet.specs.Stream.{State, live, ended, refused}
+use Rattle.packet.specs.Session.{Session, Event, login, rejected, message, heartbeat, end, skipped}
+use Rattle.record.specs.Places.{recordSize}
+use Rattle.record.specs.Record.{Answered, answered, recordBytes, recordOf}
+use Rattle.record.specs.declared.Taken.{Taken}
+use Rattle.record.specs.declared.Taken.the-variants.{Is, NoRecord}
+use Rattle.handle.specs.Handle.{isHandle, headOf, handleBytes, placesIn}
+use Rattle.handle.specs.declared.Head.{Head}
+use Rattle.reader.specs.Refusals.{refusalNumber, named}
+use Rattle.reader.specs.Deliver.{Table, Said, said}
+use Rattle.reader.specs.View.{Seen, readerWith, stateOf, memoryIn}
+use Rattle.reader.specs.Limits.{withinLimits}
+use Rattle.reader.specs.Calls.{stepAll, placesAfter}
+use Rattle.reader.specs.declared.Refusal.the-variants.{Unfit}
+use Rattle.reader.specs.declared.Reader.{Reader}
+
+-- ---- a handle
+
+-- the reader that a handle's bytes are
+abbrev pub readerIn : List ℕ → Reader
+readerIn bs = readerWith (headOf bs) (placesIn bs)
+
+-- a handle that keeps its limits with that table memory
+unfoldable pub hostWithin : List ℕ → List ℕ → Bool
+hostWithin handle table = isHandle handle && withinLimits (readerIn handle) table
+
+-- the head of a reader in a state, that holds so many bytes
+abbrev pub headIn : State (Session Table) → ℕ → Head
+headIn (live s held) used = record { line = s .line; board = s .about .board; ended = false; refusal = 0; used = used }
+headIn (ended s held) used = record { line = s .line; board = s .about .board; ended = true; refusal = 0; used = used }
+headIn (refused s held e n) used = record { line = s .line; board = s .about .board; ended = e; refusal = n; used = used }
+
+-- ---- an answer, and the handle and the table that it leaves
+
+pub record Left : Type 0 where
+  pub number : ℕ
+  pub handle : List ℕ
+  pub table : List ℕ
+
+abbrev pub left : ℕ → List ℕ → List ℕ → Left
+left number handle table = record { number = number; handle = handle; table = table }
+
+-- ---- what is told
+
+-- event memory: a login's number and session; a rejected login's reason; a message's record
+abbrev pub loginBytes : ℕ → List ℕ → List ℕ
+loginBytes n session = bytesBe 8 n ++ session
+
+-- the second byte is the kind: 1 to 6 for events
+unfoldable pub toldEvent : Event Said → List ℕ → Answered
+toldEvent (login n session) memory = answered 256 (overlay memory 0 (loginBytes n session))
+toldEvent (rejected reason) memory = answered 512 (overlay memory 0 (bytesBe 1 reason))
+toldEvent (message x) memory = answered 768 (recordBytes (x .message) (x .texts))
+toldEvent heartbeat memory = answered 1024 memory
+toldEvent end memory = answered 1280 memory
+toldEvent skipped memory = answered 1536 memory
+
+-- 0 where more is wanted, 7 after an end, 8 for a refusal
+unfoldable pub told : stream.Answer (Event Said) → List ℕ → Answered
+told (stream.Event e) memory = toldEvent e memory
+told stream.More memory = answered 0 memory
+told stream.Ended memory = answered 1792 memory
+told (stream.Refused n) memory = answered (2048 + n) memory
+
+-- ---- and read back from an answer and event memory
+
+-- the upper half of an answer is the count of bytes taken, and its second byte the kind
+abbrev pub takenIn : ℕ → ℕ
+takenIn a = a / 65_536
+
+abbrev pub kindIn : ℕ → ℕ
+kindIn a = a / 256 % 256
+
+-- the message of a record; bytes that are none tell nothing
+abbrev pub messageIn : Taken → Texts → stream.Answer (Event Said)
+messageIn (Is m) t = stream.Event (message (said m t))
+messageIn NoRecord t = stream.More
+
+-- by kind: a login's number is at 0 and its session at 8, a rejected login's reason at 0, a message is the record that the memory is; 4 to 6 have
+-- nothing to say; a refusal's number is the low byte
+unfoldable pub answerFor : ℕ → ℕ → List ℕ → stream.Answer (Event Said)
+answerFor kind low memory =
+    cond (eqb kind 0) stream.More
+    (cond (eqb kind 1) (stream.Event (login (be (part memory 0 8)) (part memory 8 10)))
+    (cond (eqb kind 2) (stream.Event (rejected (be (part memory 0 1))))
+    (cond (eqb kind 3) (messageIn (recordOf memory .taken) (recordOf memory .texts))
+    (cond (eqb kind 4) (stream.Event heartbeat)
+    (cond (eqb kind 5) (stream.Event end)
+    (cond (eqb kind 6) (stream.Event skipped)
+    (cond (eqb kind 7) stream.Ended (stream.Refused (refusalNumber (named low))))))))))
+
+abbrev pub answerIn : ℕ → List ℕ → stream.Answer (Event Said)
+answerIn a memory = answerFor (kindIn a) (a % 256) memory
+
+-- ---- A STEP
+
+-- a step of a handle where it lies: how many bytes were taken, the answer, and the handle and the table that it leaves
+pub record Gone : Type 0 where
+  pub taken : ℕ
+  pub answer : stream.Answer (Event Said)
+  pub handle : List ℕ
+  pub table : List ℕ
+
+abbrev pub goneTo : Seen → List ℕ → Gone
+goneTo x held =
+    record {
+      taken = x .step .taken;
+      answer = x .step .answer;
+      handle = handleBytes (headIn (x .step .state) (x .used)) held;
+      table = memoryIn (x .step .state);
+    }
+
+unfoldable pub movedBy : List ℕ → List ℕ → List ℕ → Gone
+movedBy handle table piece =
+    let x = stepAll (readerIn handle) table piece in
+    goneTo x (placesAfter (placesIn handle) (headOf handle .used) piece x)
+
+-- an answer, and the handle, the table and the event memory that it leaves
+pub record Stepped : Type 0 where
+  pub number : ℕ
+  pub handle : List ℕ
+  pub table : List ℕ
+  pub event : List ℕ
+
+abbrev pub hostStepped : ℕ → List ℕ → List ℕ → List ℕ → Stepped
+hostStepped number handle table event = record { number = number; handle = handle; table = table; event = event }
+
+-- the upper half of the number is the count of bytes taken
+abbrev pub steppedAs : Gone → List ℕ → Stepped
+steppedAs g event =
+    hostStepped (told (g .answer) event .number + g .taken * 65_536) (g .handle) (g .table) (told (g .answer) event .memory)
+
+-- 20 for event memory of another length and for bytes that are no handle, and nothing changes
+unfoldable pub stepHost : List ℕ → List ℕ → List ℕ → List ℕ → Stepped
+stepHost handle table piece event =
+    cond (eqb (length event) recordSize && isHandle handle)
+    (steppedAs (movedBy handle table piece) event)
+    (hostStepped (told (stream.Refused (refusalNumber Unfit)) event .number) handle table event)
+
+-- THE PROMISE OF A STEP
+abbrev pub HostSteps : List ℕ → List ℕ → List ℕ → List ℕ → ℕ → List ℕ → List ℕ → List ℕ → Type 0
+HostSteps handle table piece event a handle′ table′ event′ = hostStepped a handle′ table′ event′ ≡ stepHost handle table piece event
+
+-- THE HANDLE GOES ON AS THE READER: what a step leaves of a handle is the reader that the step leaves, so that the calls of a host are
+-- those of the reader
+abbrev pub Follows : List ℕ → List ℕ → List ℕ → List ℕ → List ℕ → Type 0
+Follows handle table piece handle′ table′ = stateOf (readerIn handle′) table′ ≡ stepAll (readerIn handle) table piece .step .state
+
+-- where the bytes are a handle, and event memory has its length
+abbrev pub GoesOn : List ℕ → List ℕ → List ℕ → List ℕ → List ℕ → List ℕ → Type 0
+GoesOn handle table piece event handle′ table′ = isHandle handle ≡ true → length event ≡ recordSize → Follows handle table piece handle′ table′

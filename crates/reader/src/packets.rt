@@ -1,0 +1,100 @@
+// A whole packet, on a handle where it lies: a message is known first and delivered in place, and any other packet is judged by value.
+use crate::deliver;
+use crate::refusals;
+use crate::told;
+use handle::Head;
+use packet::Packet;
+use packet::SESSION_SIZE;
+ghost use mathlib.Core.Path.{_≡_};
+ghost use mathlib.Core.Bool.{false};
+ghost use mathlib.Core.List.{List};
+ghost use Prim.Native.Nat.{ℕ, _≤_, _<_};
+ghost use lib.ListN.{length};
+ghost use Rattle.field.specs.Bytes.{overlay};
+ghost use Rattle.packet.specs.Line.{sessionSize, loginSession, loggedIn, packetOf, isMessage};
+ghost use Rattle.packet.specs.Session.{soupBinTCP};
+ghost use Rattle.record.specs.Places.{recordSize};
+ghost use Rattle.handle.specs.Handle.{handleSize, headOf, headBytes, withLine};
+ghost use Rattle.reader.specs.Deliver.{deliver};
+ghost use Rattle.reader.specs.Handles.{loginBytes, hostStepped};
+ghost use Rattle.reader.specs.Shapes.{Ready, sessionAt, closedAs};
+
+// The line after a login with that body.
+fn log_in(handle: &mut [u8], body: &[u8])
+    requires { ⌜ (length (now handle) ≡ handleSize) × (sessionSize ≤ length (now body)) ⌝ }
+    ensures { λ _. ⌜ now (handle .exit) ≡ overlay (now (handle .entry)) 0 (headBytes (withLine (loggedIn (headOf (now (handle .entry)) .line) (loginSession (now (body .entry)))) (headOf (now (handle .entry))))) ⌝ }
+{
+    let head = handle::read_head(handle);
+    let before = head.line;
+    let board = head.board;
+    let line = before.logged_in(body);
+    handle::put_head(
+        Head {
+            line,
+            board,
+            ended: head.ended,
+            refusal: head.refusal,
+            used: head.used,
+        },
+        handle,
+    );
+}
+
+// A login's number, and its session.
+fn tell_login(n: u64, body: &[u8], event: &mut [u8])
+    requires { ⌜ (length (now event) ≡ recordSize) × (sessionSize ≤ length (now body)) ⌝ }
+    ensures { λ _. ⌜ now (event .exit) ≡ overlay (now (event .entry)) 0 (loginBytes n (loginSession (now (body .entry)))) ⌝ }
+{
+    field::write8(event, 0, n);
+    field::copy(body, 0, SESSION_SIZE, event, told::SESSION_AT);
+}
+
+// A packet that is no message for the next number.
+fn other(handle: &mut [u8], letter: u8, body: &[u8], event: &mut [u8]) -> u32
+    requires { ⌜ ((t : List ℕ) × Ready (now handle) t (now event)) × (isMessage (packetOf (headOf (now handle) .line) letter (now body)) ≡ false) ⌝ }
+    ensures { λ r. ⌜ ((t : List ℕ) → hostStepped r (now (handle .exit)) t (now (event .exit)) ≡ closedAs (soupBinTCP deliver (sessionAt (now (handle .entry)) t) letter (now (body .entry))) (now (handle .entry)) (now (event .entry))) ⌝ }
+    ensures { λ r. ⌜ r < 65_536 ⌝ }
+{
+    let head = handle::read_head(handle);
+    let line = head.line;
+    match packet::judge(line, letter, body) {
+        Packet::Login(n) => {
+            log_in(handle, body);
+            tell_login(n, body, event);
+            told::LOGIN
+        }
+        Packet::Rejected(reason) => {
+            handle::put_ended(handle);
+            field::write1(event, 0, reason);
+            told::REJECTED
+        }
+        Packet::Message => told::MESSAGE,
+        Packet::Heartbeat => told::HEARTBEAT,
+        Packet::End => {
+            handle::put_ended(handle);
+            told::END
+        }
+        Packet::Skipped => told::SKIPPED,
+        Packet::Refused(f) => told::refuse(refusals::number(refusals::of_packet(f)), handle),
+    }
+}
+
+// What a whole packet does.
+pub fn act(
+    rows: usize,
+    handle: &mut [u8],
+    table: &mut [u8],
+    letter: u8,
+    body: &[u8],
+    event: &mut [u8],
+) -> u32
+    requires { ⌜ Ready (now handle) (now table) (now event) × (rows ≡ headOf (now handle) .board .rows) ⌝ }
+    ensures { λ r. ⌜ hostStepped r (now (handle .exit)) (now (table .exit)) (now (event .exit)) ≡ closedAs (soupBinTCP deliver (sessionAt (now (handle .entry)) (now (table .entry))) letter (now (body .entry))) (now (handle .entry)) (now (event .entry)) ⌝ }
+    ensures { λ r. ⌜ r < 65_536 ⌝ }
+{
+    let next = handle::next(handle);
+    if packet::is_message(handle::logged(handle), next, letter) {
+        return deliver::message(next, rows, handle, table, body, event);
+    }
+    other(handle, letter, body, event)
+}

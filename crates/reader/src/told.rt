@@ -1,0 +1,122 @@
+// What a step tells: the kind of an answer, in the second byte of its number, and event memory. The reader by value reads both back.
+use crate::Event;
+use crate::StepAnswer;
+use crate::Texts;
+use crate::no_text;
+use crate::refusals;
+use packet::SESSION_SIZE;
+use record::Taken;
+ghost use mathlib.Core.Path.{_≡_};
+ghost use Prim.Native.Nat.{_+_};
+ghost use lib.ListN.{length};
+ghost use Rattle.field.specs.Bytes.{part, be};
+ghost use Rattle.packet.specs.Stream as stream;
+ghost use Rattle.packet.specs.Session as packets;
+ghost use Rattle.record.specs.Places.{recordSize};
+ghost use Rattle.record.specs.Record.{recordOf};
+ghost use Rattle.handle.specs.Handle.{handleSize, refusalField, withField};
+ghost use Rattle.reader.specs.Handles.{messageIn, answerIn};
+ghost use Rattle.reader.specs.Shapes.{readBack, beside, quietHeard};
+
+pub const LOGIN: u32 = 256;
+
+pub const REJECTED: u32 = 512;
+
+pub const MESSAGE: u32 = 768;
+
+pub const HEARTBEAT: u32 = 1024;
+
+pub const END: u32 = 1280;
+
+pub const SKIPPED: u32 = 1536;
+
+pub const ENDED: u32 = 1792;
+
+// With the number of the refusal in the low byte.
+pub const REFUSED: u32 = 2048;
+
+// Refused by 20, and nothing was taken.
+pub const UNFIT: u32 = REFUSED + 20;
+
+// The upper half of an answer is the count of bytes taken.
+pub const BYTE_TAKEN: u32 = 65536;
+
+// Where the session of a login stands in event memory, behind its number.
+pub const SESSION_AT: usize = 8;
+
+// A packet is refused, and the refusal stands.
+pub fn refuse(r: u8, handle: &mut [u8]) -> u32
+    requires { ⌜ length (now handle) ≡ handleSize ⌝ }
+    ensures { λ a. ⌜ a ≡ 2048 + r ⌝ }
+    ensures { λ _. ⌜ now (handle .exit) ≡ withField refusalField r (now (handle .entry)) ⌝ }
+{
+    handle::put_refusal(r, handle);
+    REFUSED + r as u32
+}
+
+// An answer by name, and the texts beside it.
+pub struct Heard {
+    pub answer: StepAnswer,
+    pub texts: Texts,
+}
+
+fn quiet(answer: StepAnswer) -> Heard
+    ensures { λ r. ⌜ r ≡ quietHeard answer ⌝ }
+{
+    Heard {
+        answer,
+        texts: no_text(),
+    }
+}
+
+fn login(event: &[u8]) -> Heard
+    requires { ⌜ length (now event) ≡ recordSize ⌝ }
+    ensures { λ r. ⌜ readBack r ≡ beside (stream.Event (packets.login (be (part (now (event .entry)) 0 8)) (part (now (event .entry)) 8 10))) ⌝ }
+{
+    let mut session = [0u8; SESSION_SIZE];
+    field::copy(event, SESSION_AT, SESSION_SIZE, &mut session, 0);
+    Heard {
+        answer: StepAnswer::Event(Event::Login(field::read8(event, 0))),
+        texts: Texts {
+            session,
+            message: message::no_texts(),
+        },
+    }
+}
+
+fn message(event: &[u8]) -> Heard
+    ensures { λ r. ⌜ readBack r ≡ beside (messageIn (recordOf (now (event .entry)) .taken) (recordOf (now (event .entry)) .texts)) ⌝ }
+{
+    let held = record::take(event);
+    let texts = held.texts;
+    let taken = held.taken;
+    match taken {
+        Taken::Is(m) => Heard {
+            answer: StepAnswer::Event(Event::Message(m)),
+            texts: Texts {
+                session: [0; SESSION_SIZE],
+                message: texts,
+            },
+        },
+        Taken::NoRecord => quiet(StepAnswer::More),
+    }
+}
+
+// The answer that a number and event memory tell.
+pub fn read_back(number: u32, event: &[u8]) -> Heard
+    requires { ⌜ length (now event) ≡ recordSize ⌝ }
+    ensures { λ r. ⌜ readBack r ≡ beside (answerIn number (now (event .entry))) ⌝ }
+{
+    let kind = number / 256 % 256;
+    match kind {
+        0 => quiet(StepAnswer::More),
+        1 => login(event),
+        2 => quiet(StepAnswer::Event(Event::Rejected(field::read1(event, 0)))),
+        3 => message(event),
+        4 => quiet(StepAnswer::Event(Event::Heartbeat)),
+        5 => quiet(StepAnswer::Event(Event::End)),
+        6 => quiet(StepAnswer::Event(Event::Skipped)),
+        7 => quiet(StepAnswer::Ended),
+        _ => quiet(StepAnswer::Refused(refusals::named((number % 256) as u8))),
+    }
+}
