@@ -6,6 +6,7 @@ pub mod Cut
 pub mod Step
 pub mod Bytes
 pub mod Seen
+pub mod Ceiling
 pub mod Mend
 pub mod Known
 pub mod Verdicts
