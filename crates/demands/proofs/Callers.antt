@@ -1,4 +1,4 @@
--- DEMAND 3, FIRST HALF: any caller, any cuts. Steps that keep their promise tell what the reading of the uncut bytes tells.
+-- DEMAND 3, FIRST HALF: any caller, any cuts. Steps and runs that keep their promises tell what the reading of the uncut bytes tells.
 -- Assumes nothing.
 use mathlib.Core.Path.{_≡_, refl, sym, ap, _∙_, subst}
 use mathlib.Core.Logic.{inr}
@@ -13,10 +13,11 @@ use Rattle.field.specs.Bytes.{Bytes}
 use Rattle.message.specs.Letters.{listed}
 use Rattle.packet.specs.Frame.{short, frame}
 use Rattle.packet.specs.Stream as stream
-use Rattle.packet.specs.Stream.{State, live, Unfinished, NothingLeft, reading, eventsOf, Called, stepOf}
+use Rattle.packet.specs.Stream.{State, live, NothingLeft, reading, eventsOf, Called, stepOf}
 use Rattle.packet.specs.Session.{Session, Event, soupBinTCP}
 use Rattle.packet.proofs.Step as packet-steps
 use Rattle.packet.proofs.Step.{any-caller}
+use Rattle.packet.proofs.Ceiling.{called-on}
 use Rattle.table.specs.Memory.{tableSize}
 use Rattle.table.specs.Board.{Outcome, accepted, refused, freshBoard, startOf}
 use Rattle.table.specs.Rules.{Sound, boardKeeps}
@@ -24,24 +25,25 @@ use Rattle.table.specs.declared.Refusal.the-variants.{Unfit}
 use Rattle.table.proofs.Kept.{start-sound}
 use Rattle.reader.specs.Refusals.{standing}
 use Rattle.reader.specs.Deliver.{Table, Said, deliver}
-use Rattle.reader.specs.View.{sessionOf, heldOf, stateOf, Seen, heldIn}
+use Rattle.reader.specs.View.{sessionOf, heldOf, stateOf, Seen}
 use Rattle.reader.specs.Calls.{Begun, begunOf, freshOn, verdictNumber, startNumber, startAll, Starting, Stepping}
 use Rattle.reader.specs.declared.StartAnswer.the-variants.{Ready}
 use Rattle.reader.specs.declared.Reader.{Reader}
 use Rattle.reader.specs.declared.Stepped.{Stepped}
 use Rattle.reader.specs.declared.Started.{Started}
-use Rattle.demands.specs.Callers.{Steps, stop, step}
+use Rattle.demands.specs.Callers.{Steps, stop, step, run}
 use Rattle.demands.specs.Sound.{begin, SoundSession, Ours}
 use Rattle.packet.proofs.Bytes.{bytes-none, spaces-bytes, bytes-append, bytes-left, bytes-right, bytes-drop}
-use Rattle.demands.proofs.Kept.{Kept, ours-kept, kept-ours, ours-within, stepping-is, step-ours}
+use Rattle.demands.proofs.Kept.{Kept, kept-ours, ours-within, unfinished-in, stepping-is, step-ours}
+use Rattle.demands.proofs.Runs.{one-called, run-ours}
 
--- ---- steps
+-- ---- steps and runs
 
--- the bytes that come next after a step
+-- the bytes that come next after a call
 pub next-bytes : (piece more : List ℕ) (n : ℕ) → Bytes (piece ++ more) → Bytes (drop n piece ++ more)
 next-bytes piece more n b = bytes-append (drop n piece) more (bytes-drop n piece (bytes-left piece more b)) (bytes-right piece more b)
 
--- the steps of the code are calls of the definitions
+-- the steps and runs of the code are calls of the definitions
 pub steps-called : {r r′ : Reader} {t bs t′ left : List ℕ} {es : List (Event Said)} → Steps r t bs es r′ t′ left → Ours r t → Bytes bs
     → Called (soupBinTCP deliver) (stateOf r t) bs es (stateOf r′ t′) left
 steps-called stop o b = stream.stop
@@ -53,23 +55,19 @@ steps-called (step {r = r} {r′ = r′} {t = t} {t″ = t″} {left = left} {es
     (sym (ap (λ (q : Seen). q .step) (stepping-is r t piece s t′ (ours-within r t o) h)))
     (stream.call piece more)
     (steps-called c (step-ours r t piece s t′ o (bytes-left piece more b) h) (next-bytes piece more (s .taken) b))
+steps-called (run {r = r} {t = t} piece more n x t′ h c) o b =
+    called-on (soupBinTCP deliver) (one-called r t piece n x t′ o (bytes-left piece more b) h more)
+    (steps-called c (run-ours r t piece n x t′ o (bytes-left piece more b) h) (next-bytes piece more (x .taken) b))
 
--- THEOREM: steps of what is ours, with any bytes, leave what is ours
+-- THEOREM: steps and runs of what is ours, with any bytes, leave what is ours
 pub steps-ours : {r r′ : Reader} {t bs t′ left : List ℕ} {es : List (Event Said)} → Steps r t bs es r′ t′ left → Ours r t → Bytes bs → Ours r′ t′
 steps-ours stop o b = o
 steps-ours (step {r = r} {t = t} piece more s t′ h c) o b =
     steps-ours c (step-ours r t piece s t′ o (bytes-left piece more b) h) (next-bytes piece more (s .taken) b)
+steps-ours (run {r = r} {t = t} piece more n x t′ h c) o b =
+    steps-ours c (run-ours r t piece n x t′ o (bytes-left piece more b) h) (next-bytes piece more (x .taken) b)
 
-unfinished-by : (st : State (Session Table)) → frame (heldIn st) ≡ short → Unfinished st
-unfinished-by (live s held) h = h
-unfinished-by (stream.ended s held) h = tt
-unfinished-by (stream.refused s held e n) h = tt
-
--- what is ours holds no whole packet
-pub unfinished-in : (r : Reader) (t : List ℕ) → Ours r t → Unfinished (stateOf r t)
-unfinished-in r t o = unfinished-by (stateOf r t) (ours-kept r t o .short)
-
--- the steps of a reader of ours that is given every byte, or has ended or refused
+-- the calls of a reader of ours that is given every byte, or has ended or refused
 pub steps-read : {r r′ : Reader} {t bs t′ left : List ℕ} {es : List (Event Said)} → Steps r t bs es r′ t′ left → Ours r t → Bytes bs
     → NothingLeft (stateOf r′ t′) left → reading (soupBinTCP deliver) (stateOf r t) bs ≡ record { events = es; state = stateOf r′ t′ }
 steps-read {r = r} {t = t} c o b none =
@@ -129,9 +127,9 @@ module _ (t : List ℕ) (s : Started) (t₁ : List ℕ) (h : Starting t s t₁) 
       let k : Kept (live begin []) = record { sound = begin-sound; stands = refl; short = refl; bytes = bytes-none } in
       kept-ours (s .reader) t₁ (subst Kept (sym (started .0)) k) (omega (arith, started .1))
 
-  -- THEOREM: ANY CALLER, ANY CUTS. Of a reader that was started without refusal, steps that keep their promise, with handle and memory handed on
+  -- THEOREM: ANY CALLER, ANY CUTS. Of a reader that was started without refusal, steps and runs that keep their promises, with handle and memory handed on
   -- untouched and until no byte is left or the reader has ended or refused, tell the events, in order, and leave the reader and the table of the
-  -- reading of the uncut bytes.
+  -- reading of the uncut bytes; a run tells those of the bytes that it takes by their count.
   pub any-cuts : {bs : List ℕ} {es : List (Event Said)} {r : Reader} {t₂ left : List ℕ} → Bytes bs → Steps (s .reader) t₁ bs es r t₂ left
       → NothingLeft (stateOf r t₂) left → reading (soupBinTCP deliver) (live begin []) bs ≡ record { events = es; state = stateOf r t₂ }
   any-cuts {bs} b c none =

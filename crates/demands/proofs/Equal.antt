@@ -6,6 +6,7 @@ use Prim.Native.Nat.{ℕ}
 use borrow.Author.Tests.{eqb-false}
 use Rattle.field.proofs.Answers.{equal-answers}
 use Rattle.packet.specs.Stream as stream
+use Rattle.packet.specs.Ceiling as ceiling
 use Rattle.packet.specs.Session as packets
 use Rattle.packet.specs.Session.{Session, Event}
 use Rattle.reader.specs.Refusals.{refusalNumber, named}
@@ -15,7 +16,8 @@ use Rattle.reader.specs.Calls.{Stepping, Starting, Begun, begunOf, startNumber}
 use Rattle.image.specs.Save.{Saving, saving}
 use Rattle.image.specs.declared.Saved.{Saved}
 use Rattle.reader.specs.Handles as hosts
-use Rattle.reader.specs.Handles.{hostStepped, HostSteps}
+use Rattle.reader.specs.Handles.{Left, left, hostStepped, HostSteps}
+use Rattle.reader.specs.Running.{whyOf, SeenRun, seenRunOf, Running, HostRuns}
 use Rattle.reader.specs.Saving.{Saves, Came, cameOf, Restores}
 use Rattle.reader.specs.declared.Texts.{Texts}
 use Rattle.reader.specs.declared.Restored.{Restored}
@@ -28,11 +30,14 @@ use Rattle.reader.specs.declared.StartAnswer.{StartAnswer}
 use Rattle.reader.specs.declared.StartAnswer.the-variants as started
 use Rattle.reader.specs.declared.Reader.{Reader}
 use Rattle.reader.specs.declared.Stepped.{Stepped}
+use Rattle.reader.specs.declared.Why.{Why}
+use Rattle.reader.specs.declared.Why.the-variants as why
+use Rattle.reader.specs.declared.Ran.{Ran}
 use Rattle.reader.specs.declared.Started.{Started}
 use Rattle.reader.proofs.Ways.{some-number}
 use Rattle.reader.proofs.Fits.{name-back}
 use Rattle.reader.proofs.Views.{session-in, held-in}
-use Rattle.demands.specs.Same.{SameReader, SameStep, SameStart, SameRestore}
+use Rattle.demands.specs.Same.{SameReader, SameStep, SameRun, SameStart, SameRestore}
 use Rattle.demands.proofs.View.{refusalIn, endedIn, ended-of, refusal-of}
 use Rattle.demands.proofs.Names.{saved-same, verdicts-same}
 
@@ -112,6 +117,43 @@ equal-host-steps handle table piece event a b h₁ t₁ e₁ h₂ t₂ e₂ x y 
 -- THEOREM, of a refusal by name: what is promised of its number fixes it
 pub equal-names : (r q : Refusal) → refusalNumber r ≡ refusalNumber q → r ≡ q
 equal-names r q e = sym (name-back r) ∙ ap named e ∙ name-back q
+
+-- ---- of a run
+
+abbrev whyBack : ceiling.Why → Why
+whyBack ceiling.Ended = why.Ended
+whyBack (ceiling.Refused n) = why.Refused (named n)
+whyBack ceiling.Ceiling = why.Ceiling
+whyBack ceiling.More = why.More
+
+why-back : (w : Why) → whyBack (whyOf w) ≡ w
+why-back why.Ended = refl
+why-back (why.Refused r) = ap why.Refused (name-back r)
+why-back why.Ceiling = refl
+why-back why.More = refl
+
+pub same-runs : (a b : Ran) (t t′ : List ℕ) → seenRunOf a t ≡ seenRunOf b t′ → SameRun a b t t′
+same-runs a b t t′ e =
+    let r = same-readers (a .reader) (b .reader) t t′ (ap (λ (q : SeenRun). q .run .state) e) (ap (λ (q : SeenRun). q .used) e) in
+    record {
+      reader = r .0;
+      taken = ap (λ (q : SeenRun). q .run .taken) e;
+      finished = ap (λ (q : SeenRun). q .run .finished) e;
+      why = sym (why-back (a .why)) ∙ ap (λ (q : SeenRun). whyBack (q .run .why)) e ∙ why-back (b .why);
+      memory = r .1;
+    }
+
+-- THEOREM, of a run
+pub equal-runs : (r : Reader) (t piece : List ℕ) (n : ℕ) (a b : Ran) (t₁ t₂ : List ℕ) → Running r t piece n a t₁ → Running r t piece n b t₂
+    → SameRun a b t₁ t₂
+equal-runs r t piece n a b t₁ t₂ x y = same-runs a b t₁ t₂ (equal-answers x y)
+
+-- THEOREM, of a run where a handle lies: every byte that it leaves agrees
+pub equal-host-runs : (handle table piece : List ℕ) (n a b : ℕ) (h₁ t₁ h₂ t₂ : List ℕ) → HostRuns handle table piece n a h₁ t₁
+    → HostRuns handle table piece n b h₂ t₂ → (a ≡ b) × (h₁ ≡ h₂) × (t₁ ≡ t₂)
+equal-host-runs handle table piece n a b h₁ t₁ h₂ t₂ x y =
+    let e : left a h₁ t₁ ≡ left b h₂ t₂ = equal-answers x y in
+    (ap (λ (q : Left). q .number) e, ap (λ (q : Left). q .handle) e, ap (λ (q : Left). q .table) e)
 
 -- ---- of starting
 

@@ -6,7 +6,6 @@ use mathlib.Core.List.{List, _++_}
 use mathlib.Core.Bool.{true}
 use Prim.Native.Nat.{ℕ, _-_, _≤_}
 use native.Mathlib.Omega.{arith}
-use borrow.Author.Tests.{le-leb}
 use lib.ListN.{length}
 use Rattle.field.specs.Bytes.{Bytes}
 use Rattle.field.specs.Limits.{highestNumber}
@@ -15,7 +14,7 @@ use Rattle.field.proofs.Numbers.{part-bytes}
 use Rattle.packet.specs.Frame.{Framed, short, badLength, packet, frame, heldSize}
 use Rattle.packet.specs.Refusals.{faultNumber}
 use Rattle.packet.specs.Stream as stream
-use Rattle.packet.specs.Stream.{State, live, ended, refused, accept, finish, refuse, stepJudged, stepFramed, stepOf}
+use Rattle.packet.specs.Stream.{State, live, ended, refused, accept, finish, refuse, Unfinished, stepJudged, stepFramed, stepOf}
 use Rattle.packet.specs.Line.{InRange, packetOf}
 use Rattle.packet.specs.Session.{Session, Event, Delivered, done, denied, delivered, does, soupBinTCP}
 use Rattle.packet.specs.declared.Line.{Line}
@@ -27,14 +26,14 @@ use Rattle.packet.proofs.Rules.{never}
 use Rattle.packet.proofs.Frame.{short-fits}
 use Rattle.packet.proofs.Known.{Known, packet-known}
 use Rattle.packet.proofs.Keep.{VerdictHas}
-use Rattle.table.specs.Board.{fits}
 use Rattle.reader.specs.Refusals.{standing}
 use Rattle.reader.specs.Deliver.{Table, tableOf, Said, deliver}
-use Rattle.reader.specs.View.{heldOf, stateOf, Seen, seenOf, seen, sessionIn, heldIn}
-use Rattle.reader.specs.Limits.{unfinished, holdsUnfinished, withinLimits}
+use Rattle.reader.specs.View.{stateOf, Seen, seenOf, seen, sessionIn, heldIn}
+use Rattle.reader.specs.Limits.{withinLimits}
 use Rattle.reader.specs.Calls.{stepAll, Stepping}
 use Rattle.reader.specs.declared.Reader.{Reader}
 use Rattle.reader.specs.declared.Stepped.{Stepped}
+use Rattle.reader.proofs.Kept.{limits-hold}
 use Rattle.reader.proofs.Views.{session-in, held-in}
 use Rattle.demands.specs.Sound.{begin, SoundSession, Ours}
 use Rattle.packet.proofs.Bytes.{bytes-none, bytes-append, frame-bytes}
@@ -119,15 +118,14 @@ step-kept (live s held) piece b k =
 step-kept (ended s held) piece b k = k
 step-kept (refused s held e n) piece b k = k
 
+unfinished-by : (st : State (Session Table)) → frame (heldIn st) ≡ short → Unfinished st
+unfinished-by (live s held) h = h
+unfinished-by (ended s held) h = tt
+unfinished-by (refused s held e n) h = tt
+
 -- ---- the same of a handle
 
 module _ (r : Reader) (t : List ℕ) where
-  pub limits-hold : fits (r .board) t ≡ true → InRange (r .line) → r .used ≤ heldSize → frame (heldOf r) ≡ short → standing (r .refusal) ≡ true
-      → withinLimits r t ≡ true
-  unfolding withinLimits holdsUnfinished unfinished
-  limits-hold f n u h s =
-      rw (f, le-leb 1 (r .line .next) (n .some), le-leb (r .line .next) highestNumber (n .most), le-leb (r .used) heldSize u, h, s)
-
   pub ours-kept : Ours r t → Kept (stateOf r t)
   ours-kept o =
       record {
@@ -136,6 +134,10 @@ module _ (r : Reader) (t : List ℕ) where
         short = ap frame (held-in r t) ∙ o .short;
         bytes = subst Bytes (sym (held-in r t)) (o .bytes);
       }
+
+  -- what is ours holds no whole packet
+  pub unfinished-in : Ours r t → Unfinished (stateOf r t)
+  unfinished-in o = unfinished-by (stateOf r t) (ours-kept o .short)
 
   pub kept-ours : Kept (stateOf r t) → r .used ≤ heldSize → Ours r t
   kept-ours k u =
@@ -150,7 +152,15 @@ module _ (r : Reader) (t : List ℕ) where
   -- THEOREM: what our own calls make is within the limits of a handle
   pub ours-within : Ours r t → withinLimits r t ≡ true
   ours-within o =
-      limits-hold (sound-fits (tableOf (r .board) t) (o .sound .about)) (o .sound .range) (o .used) (o .short) (o .stands)
+      limits-hold r t
+      (record {
+        fitted = sound-fits (tableOf (r .board) t) (o .sound .about);
+        some = o .sound .range .some;
+        most = o .sound .range .most;
+        start = o .used;
+        short = o .short;
+        stands = o .stands;
+      })
 
   -- a step within the limits is the definition's
   pub stepping-is : (piece : List ℕ) (s : Stepped) (t′ : List ℕ) → withinLimits r t ≡ true → Stepping r t piece s t′

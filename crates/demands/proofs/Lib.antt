@@ -1,9 +1,10 @@
 pub mod Applied
 pub mod View
 pub mod Kept
-pub mod Callers
 pub mod Names
 pub mod Equal
+pub mod Runs
+pub mod Callers
 pub mod Refused
 pub mod Cases
 pub mod Wrong

@@ -1,16 +1,20 @@
--- DEMAND 1, of starting and steps: what each refusal leaves; and a reader that has ended or refused repeats its answer.
+-- DEMAND 1, of starting, steps and runs: what each refusal leaves; and a reader that has ended or refused repeats its answer.
 -- Assumes nothing.
 use mathlib.Core.Path.{_≡_, sym, ap, _∙_, subst}
 use mathlib.Core.List.{List, [], _++_}
 use mathlib.Core.Bool.{true, false}
-use Prim.Native.Nat.{ℕ, _-_}
-use borrow.Author.Tests.{eq-eqb, ne-eqb}
+use Prim.Native.Nat.{ℕ, _-_, _≤_, _<_}
+use native.Mathlib.Omega.{arith}
+use borrow.Author.Tests.{eq-eqb, ne-eqb, lt-leb}
 use lib.ListN.{length}
+use lib.Seq.{length-take-le}
 use Rattle.field.specs.Bytes.{Bytes}
 use Rattle.packet.specs.Frame as frames
 use Rattle.packet.specs.Frame.{Framed, short, badLength, frame, heldSize}
 use Rattle.packet.specs.Stream as stream
 use Rattle.packet.specs.Stream.{State, live, ended, refused, refusedBy, accept, finish, refuse, NothingLeft, Run, RefusedAt, stepJudged, stepFramed, stepOf}
+use Rattle.packet.specs.Ceiling as ceiling
+use Rattle.packet.specs.Ceiling.{whyAtCeiling, halted}
 use Rattle.packet.specs.Session.{Session, Event, Delivered, done, denied, delivered, does, soupBinTCP}
 use Rattle.packet.specs.Line.{freshLine, packetOf}
 use Rattle.packet.specs.declared.Line.{Line}
@@ -18,6 +22,7 @@ use Rattle.packet.specs.declared.Fault.the-variants as fault
 use Rattle.packet.specs.declared.Packet.{Packet}
 use Rattle.packet.specs.declared.Packet.the-variants as packet
 use Rattle.packet.proofs.Rules.{never}
+use Rattle.packet.proofs.Ceiling.{at-once}
 use Rattle.packet.proofs.Refused.{session-leaves, step-refused, refused-as-before}
 use Rattle.table.specs.Memory.{tableSize}
 use Rattle.table.specs.Board.{freshBoard, fits, startOf}
@@ -26,25 +31,30 @@ use Rattle.reader.specs.Deliver.{Table, Said, deliver}
 use Rattle.reader.specs.View.{sessionOf, heldOf, stateOf, Seen, seenOf, seen, sessionIn, heldIn, answerTexts, answerOf, stillOf, readyOf}
 use Rattle.reader.specs.Limits.{withinLimits}
 use Rattle.reader.specs.Calls.{stepAll, Stepping, startAll, Starting}
+use Rattle.reader.specs.Running.{mostPackets, whyOf, seenRun, runAll, Running}
 use Rattle.reader.specs.declared.Refusal.{Refusal}
 use Rattle.reader.specs.declared.Refusal.the-variants as refusal
 use Rattle.reader.specs.declared.StepAnswer.the-variants as answer
 use Rattle.reader.specs.declared.StartAnswer.the-variants as started
 use Rattle.reader.specs.declared.Reader.{Reader}
 use Rattle.reader.specs.declared.Stepped.{Stepped}
+use Rattle.reader.specs.declared.Why.{Why}
+use Rattle.reader.specs.declared.Why.the-variants as why
+use Rattle.reader.specs.declared.Ran.{Ran}
 use Rattle.reader.specs.declared.Started.{Started}
 use Rattle.reader.proofs.Kept as limits
-use Rattle.reader.proofs.Kept.{within}
-use Rattle.reader.proofs.Views.{session-in}
+use Rattle.reader.proofs.Kept.{within, named-number}
+use Rattle.reader.proofs.Views.{session-in, held-in}
 use Rattle.demands.specs.Callers.{Steps}
 use Rattle.demands.specs.Sound.{begin}
-use Rattle.demands.specs.Same.{SameStep, SameStart}
-use Rattle.demands.specs.Refused.{Leaves}
+use Rattle.demands.specs.Same.{SameStep, SameRun, SameStart}
+use Rattle.demands.specs.Refused.{Leaves, stillRan}
 use Rattle.demands.proofs.View.{refusalIn, endedIn, ended-of, refusal-of}
 use Rattle.demands.proofs.Applied.{DeniedStands, deliver-undone, deliver-stands}
 use Rattle.demands.proofs.Kept.{fault-stands, stepping-is}
 use Rattle.demands.proofs.Callers.{any-cuts}
-use Rattle.demands.proofs.Equal.{same-steps, equal-starts}
+use Rattle.demands.proofs.Equal.{same-steps, same-runs, equal-starts}
+use Rattle.demands.proofs.Runs.{running-is}
 
 -- ---- refusal 20
 
@@ -53,6 +63,18 @@ pub refusal-20 : (r : Reader) (t piece : List ℕ) (s : Stepped) (t′ : List �
     → SameStep s (stillOf r (answer.Refused refusal.Unfit)) t′ t
 unfolding stepAll
 refusal-20 r t piece s t′ e h = same-steps s (stillOf r (answer.Refused refusal.Unfit)) t′ t (rw e at h)
+
+-- THEOREM: so does it of a run, whatever the ceiling: 20 comes before 27
+pub run-20 : (r : Reader) (t piece : List ℕ) (n : ℕ) (x : Ran) (t′ : List ℕ) → withinLimits r t ≡ false → Running r t piece n x t′
+    → SameRun x (stillRan r (why.Refused refusal.Unfit)) t′ t
+unfolding runAll
+run-20 r t piece n x t′ e h = same-runs x (stillRan r (why.Refused refusal.Unfit)) t′ t (rw e at h)
+
+-- THEOREM: 27, a ceiling over 1,000, takes nothing, finishes nothing, and leaves the handle and all memory
+pub run-27 : (r : Reader) (t piece : List ℕ) (n : ℕ) (x : Ran) (t′ : List ℕ) → withinLimits r t ≡ true → mostPackets < n → Running r t piece n x t′
+    → SameRun x (stillRan r (why.Refused refusal.HighCeiling)) t′ t
+unfolding runAll
+run-27 r t piece n x t′ e l h = same-runs x (stillRan r (why.Refused refusal.HighCeiling)) t′ t (rw (e, lt-leb n mostPackets l) at h)
 
 -- THEOREM: on starting it gives a fresh handle, and leaves all memory
 pub start-20 : (t : List ℕ) (s : Started) (t′ : List ℕ) → (length t ≡ tableSize → ⊥) → Starting t s t′
@@ -77,6 +99,29 @@ module _ (r : Reader) (t piece : List ℕ) (s : Stepped) (t′ : List ℕ) (long
   pub end-repeats : r .refusal ≡ 0 → r .ended ≡ true → SameStep s (stillOf r answer.Ended) t′ t
   end-repeats n k =
       same-steps s (stillOf r answer.Ended) t′ t (h ∙ sym (limits.step-ended r t piece e long n k))
+
+-- the same of a run with an allowed ceiling
+module _ (r : Reader) (t piece : List ℕ) (n : ℕ) (x : Ran) (t′ : List ℕ) (long : length (r .held) ≡ heldSize) (e : withinLimits r t ≡ true)
+    (most : n ≤ mostPackets) (h : Running r t piece n x t′) where
+  run-repeats : (w : Why) → whyAtCeiling (stateOf r t) ≡ whyOf w → (whyOf w ≡ ceiling.Ceiling → ⊥) → SameRun x (stillRan r w) t′ t
+  run-repeats w k z =
+      let u : length (heldIn (stateOf r t)) ≡ r .used
+      = ap length (held-in r t) ∙ length-take-le (r .used) (r .held) (omega (arith, long, within r t e .start)) in
+      same-runs x (stillRan r w) t′ t
+      (running-is r t piece n x t′ e most h
+      ∙ ap seenRun (at-once (soupBinTCP deliver) n (stateOf r t) piece (λ y. z (sym k ∙ y)))
+      ∙ (λ i. record { run = halted (stateOf r t) 0 (k i); used = u i }))
+
+  -- THEOREM: a standing refusal is repeated, and nothing else happens
+  pub run-refusal-repeats : (r .refusal ≡ 0 → ⊥) → SameRun x (stillRan r (why.Refused (named (r .refusal)))) t′ t
+  run-refusal-repeats some =
+      run-repeats (why.Refused (named (r .refusal)))
+      (rw (ne-eqb (r .refusal) 0 some) (ap ceiling.Refused (sym (named-number (r .refusal) (within r t e .stands) some))))
+      (λ y. let z : _≡_ {A = ℕ} 0 1 = cc in omega arith)
+
+  -- THEOREM: so is an end
+  pub run-end-repeats : r .refusal ≡ 0 → r .ended ≡ true → SameRun x (stillRan r why.Ended) t′ t
+  run-end-repeats none over = run-repeats why.Ended (rw (none, over)) (λ y. let z : _≡_ {A = ℕ} 0 1 = cc in omega arith)
 
 -- ---- refusals 1 to 16
 
@@ -108,7 +153,7 @@ refusals-leave r t piece s t′ x e n k h a =
       texts = ap (λ (q : Seen). q .texts) z ∙ ap answerTexts y;
     }
 
--- THEOREM: of a reader that was started without refusal and was stepped until it refused, nothing is held, and table and handle are as before the
+-- THEOREM: of a reader that was started without refusal and was given bytes until it refused, nothing is held, and table and handle are as before the
 -- refused packet's first byte, which is the first that follows the accepted packets
 pub refused-run : (t : List ℕ) (b : Started) (t₁ : List ℕ) → Starting t b t₁ → b .answer ≡ started.Ready
     → {bs : List ℕ} {es : List (Event Said)} {r : Reader} {t₂ left : List ℕ} → Bytes bs → Steps (b .reader) t₁ bs es r t₂ left

@@ -1,4 +1,4 @@
--- DEMAND 3, SECOND HALF: stop, save, restore, log in again, and go on as the run that never stopped.
+-- DEMAND 3, SECOND HALF: stop, save, restore, log in again, and go on as the caller that never stopped.
 -- Assumes nothing.
 use mathlib.Core.Path.{_≡_, refl, sym, ap, _∙_, subst}
 use mathlib.Core.Logic.{_⊎_, inl, inr}
@@ -32,8 +32,8 @@ use Rattle.demands.specs.Sound.{SoundSession, Ours}
 use Rattle.demands.specs.Stopped.{StoppedAt, GoesOn}
 use Rattle.packet.proofs.Bytes.{bytes-none, bytes-append, bytes-right, login-bytes}
 use Rattle.demands.proofs.View.{refusalIn, refusal-of}
-use Rattle.demands.proofs.Kept.{Kept, kept-ours}
-use Rattle.demands.proofs.Callers.{steps-called, steps-read, steps-ours, unfinished-in}
+use Rattle.demands.proofs.Kept.{Kept, kept-ours, unfinished-in}
+use Rattle.demands.proofs.Callers.{steps-called, steps-read, steps-ours}
 use Rattle.demands.proofs.Saved.{ours-saved, comes-back}
 use Rattle.demands.proofs.Stopped.{Took, called-took, stopped-at}
 
@@ -103,8 +103,8 @@ restored-kept s h =
 
 -- ---- by the calls
 
--- A reader that our own calls made, and that has neither ended nor refused, is stepped with bytes. It is logged in, or a login is among them, and it is
--- stopped before any end.
+-- A reader that our own calls made, and that has neither ended nor refused, is given bytes by steps and runs. It is logged in, or a login is among them,
+-- and it is stopped before any end.
 module _ (r₀ : Reader) (t₀ : List ℕ) (o₀ : Ours r₀ t₀) (open₀ : (r₀ .refusal ≡ 0) × (r₀ .ended ≡ false))
     (bs : List ℕ) (bytes : Bytes bs) (es : List (Event Said)) (r : Reader) (t left : List ℕ) (before : Steps r₀ t₀ bs es r t left)
     (logged : LoggedIn (r₀ .line) ⊎ (anyLogin es ≡ true)) (unended : r .ended ≡ false) where
@@ -151,7 +151,7 @@ module _ (r₀ : Reader) (t₀ : List ℕ) (o₀ : Ours r₀ t₀) (open₀ : (r
         kept-ours (q .reader) m′ (subst Kept (sym (back .1)) (restored-kept session (ours .sound))) (omega (arith, ap (λ (c : Came). c .used) restore))
 
     -- THEOREM: the restored reader is given a login for the saved session and number, and then the bytes that follow the last accepted packet. Its
-    -- later events, the table and any refusal are those of the run that never stopped.
+    -- later events, the table and any refusal are those of the caller that never stopped.
     pub goes-on : (s : StoppedAt session₀ (heldOf r₀) bs es session) (es₁ : List (Event Said)) (r₁ : Reader) (t₁ left₁ : List ℕ)
         → Steps (q .reader) m′ (loginPacket (r .line .session) (r .line .next) ++ s .following) es₁ r₁ t₁ left₁ → NothingLeft (stateOf r₁ t₁) left₁
         → (es₂ : List (Event Said)) (r₂ : Reader) (t₂ left₂ : List ℕ)

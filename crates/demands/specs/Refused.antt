@@ -9,6 +9,8 @@ use Rattle.reader.specs.View.{noText}
 use Rattle.reader.specs.declared.Refusal.{Refusal}
 use Rattle.reader.specs.declared.Reader.{Reader}
 use Rattle.reader.specs.declared.Stepped.{Stepped}
+use Rattle.reader.specs.declared.Why.{Why}
+use Rattle.reader.specs.declared.Ran.{Ran}
 
 -- refusals 1 to 16: the table and the handle are as they were, but nothing is held and the refusal stands
 pub record Leaves (r : Reader) (t : List ℕ) (x : Refusal) (s : Stepped) (t′ : List ℕ) : Type 0 where
@@ -19,3 +21,7 @@ pub record Leaves (r : Reader) (t : List ℕ) (x : Refusal) (s : Stepped) (t′ 
   pub standing : s .reader .refusal ≡ refusalNumber x
   pub used : s .reader .used ≡ 0
   pub texts : s .texts ≡ noText
+
+-- a run that takes nothing, finishes nothing and leaves the handle
+abbrev pub stillRan : Reader → Why → Ran
+stillRan r w = record { reader = r; taken = 0; finished = 0; why = w }

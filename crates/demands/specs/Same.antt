@@ -6,6 +6,7 @@ use mathlib.Core.List.{List}
 use Rattle.reader.specs.View.{heldOf}
 use Rattle.reader.specs.declared.Reader.{Reader}
 use Rattle.reader.specs.declared.Stepped.{Stepped}
+use Rattle.reader.specs.declared.Ran.{Ran}
 use Rattle.reader.specs.declared.Started.{Started}
 use Rattle.reader.specs.declared.Restored.{Restored}
 
@@ -23,6 +24,14 @@ pub record SameStep (a b : Stepped) (t t′ : List ℕ) : Type 0 where
   pub taken : a .taken ≡ b .taken
   pub answer : a .answer ≡ b .answer
   pub texts : a .texts ≡ b .texts
+  pub memory : t ≡ t′
+
+-- and of a run
+pub record SameRun (a b : Ran) (t t′ : List ℕ) : Type 0 where
+  pub reader : SameReader (a .reader) (b .reader)
+  pub taken : a .taken ≡ b .taken
+  pub finished : a .finished ≡ b .finished
+  pub why : a .why ≡ b .why
   pub memory : t ≡ t′
 
 -- and of starting

@@ -1,15 +1,16 @@
 -- What the code does, as the definitions say it: judged, read and written.
 -- Assumes nothing.
-use mathlib.Core.Path.{_≡_, refl, ap, _∙_}
+use mathlib.Core.Path.{_≡_, refl, sym, ap, _∙_}
 use mathlib.Core.Bool.{Bool, true, false, _&&_}
-use mathlib.Core.List.{List, [], _∷_}
-use Prim.Native.Nat.{ℕ}
+use mathlib.Core.List.{List, [], _∷_, _++_}
+use Prim.Native.Nat.{ℕ, _≤_}
 use native.Mathlib.Omega.{arith}
 use lib.Dec.{eqb, leb}
 use lib.ListN.{length, replicate}
 use borrow.Author.Tests.{eq-eqb, ne-eqb}
 use Rattle.field.specs.Bytes.{part, overlay, digits, be, bytesBe}
-use Rattle.field.proofs.Parts.{part-length, part-whole, overlay-whole}
+use Rattle.field.proofs.Parts.{part-length, part-whole, overlay-whole, overlay-next}
+use Rattle.field.proofs.Numbers.{Lent, lent-bytes, rewrites}
 use Rattle.field.proofs.Writes.{piece, run-joined}
 use Rattle.message.specs.Layout.{values, keepsAll, bytesFor}
 use Rattle.handle.specs.Handle.{handleSize, flag, isHandle, headOf, headBytes, numberBytes, markBytes}
@@ -54,6 +55,18 @@ head-read bs len s k l n r e v d f u =
       refusal = f i;
       used = u i;
     }
+
+-- the next number and the session, copied one behind the other
+pub login-copied : (bs out : List ℕ) {first after : List ℕ} → length bs ≡ handleSize → Lent bs → 18 ≤ length out
+    → first ≡ overlay out 0 (part bs 0 8) → after ≡ overlay first 8 (part bs 32 10)
+    → after ≡ overlay out 0 (bytesBe 8 (headOf bs .line .next) ++ headOf bs .line .session)
+unfolding headOf values
+login-copied bs out l k m e f =
+    let w : length (part bs 0 8) ≡ 8 = part-length bs 0 8 (omega (arith, l)) in
+    let t : length (part bs 32 10) ≡ 10 = part-length bs 32 10 (omega (arith, l)) in
+    f ∙ ap (λ (x : List ℕ). overlay x 8 (part bs 32 10)) e
+    ∙ (rw w at (overlay-next out 0 (part bs 0 8) (part bs 32 10) (omega (arith, w, t, m))))
+    ∙ ap (λ (x : List ℕ). overlay out 0 (x ++ part bs 32 10)) (sym (rewrites 8 bs 0 (lent-bytes bs k) (omega (arith, l))))
 
 -- single fields
 module _ (bs : List ℕ) {v : ℕ} where

@@ -2,8 +2,10 @@
 use packet::Line;
 use table::Board;
 ghost use mathlib.Core.Path.{_≡_};
+ghost use mathlib.Core.List.{_++_};
+ghost use Prim.Native.Nat.{_≤_};
 ghost use lib.ListN.{length};
-ghost use Rattle.field.specs.Bytes.{overlay};
+ghost use Rattle.field.specs.Bytes.{overlay, bytesBe};
 ghost use Rattle.handle.specs.Handle.{handleSize, isHandle, headOf, headBytes, flag, numberBytes, markBytes, nextField, liveField, rowsField, usedField, endedField, refusalField, eventField, withField};
 
 pub const HEAD_SIZE: usize = 47;
@@ -164,6 +166,15 @@ pub fn refusal(bytes: &[u8]) -> u8
     ensures { λ r. ⌜ r ≡ headOf (now (bytes .entry)) .refusal ⌝ }
 {
     field::read1(bytes, REFUSAL)
+}
+
+// The next number and the session, which a login tells, to the front of `out`: one load and one store for the number.
+pub fn copy_login(bytes: &[u8], out: &mut [u8])
+    requires { ⌜ (length (now bytes) ≡ handleSize) × (18 ≤ length (now out)) ⌝ }
+    ensures { λ _. ⌜ now (out .exit) ≡ overlay (now (out .entry)) 0 (bytesBe 8 (headOf (now (bytes .entry)) .line .next) ++ headOf (now (bytes .entry)) .line .session) ⌝ }
+{
+    field::copy8(bytes, NEXT, out, 0);
+    field::copy(bytes, SESSION, packet::SESSION_SIZE, out, 8);
 }
 
 pub fn put_next(v: u64, out: &mut [u8])

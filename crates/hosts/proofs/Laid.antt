@@ -21,11 +21,12 @@ use Rattle.packet.specs.Session.{Session}
 use Rattle.table.specs.Rules.{boardKeeps}
 use Rattle.table.specs.declared.Board.{Board}
 use Rattle.handle.specs.Handle.{headSize, isHandle, handleBytes, placesIn}
+use Rattle.handle.specs.declared.Head.{Head}
 use Rattle.handle.proofs.Rounds.{HeadFits, handle-length}
 use Rattle.handle.proofs.Laid.{laid-handle}
 use Rattle.reader.specs.Refusals.{standing}
 use Rattle.reader.specs.Deliver.{Table}
-use Rattle.reader.specs.View.{stateOf, heldIn}
+use Rattle.reader.specs.View.{readerWith, stateOf, heldIn}
 use Rattle.reader.specs.Handles.{readerIn, headIn}
 use Rattle.reader.specs.declared.Reader.{Reader}
 use Rattle.reader.proofs.Views.{held-in, reader-back}
@@ -88,22 +89,25 @@ module _ (handle table : List ℕ) (o : HostOurs handle table) where
 -- ---- one that holds nothing
 
 module _ (s : Session Table) (k : Kept (live s [])) where
-  abbrev pub unheldBytes : List ℕ
-  unheldBytes = handleBytes (headIn (live s []) 0) noHeld
+  abbrev head : Head
+  head = headIn (live s []) 0
 
   blank : length noHeld ≡ heldSize
   blank = length-replicate {A = ℕ} heldSize 0
 
-  room : HeadFits (headIn (live s []) 0)
-  room = head-fits s (k .sound) false 0 0 (omega arith) (omega arith)
+  back : readerIn (handleBytes head noHeld) ≡ readerWith head noHeld
+  back = reader-back head noHeld (head-fits s (k .sound) false 0 0 (omega arith) (omega arith)) blank
 
-  pub unheld-state : stateOf (readerIn unheldBytes) (s .about .memory) ≡ live s []
-  unheld-state = ap (λ (r : Reader). stateOf r (s .about .memory)) (reader-back (headIn (live s []) 0) noHeld room blank)
+  -- it is that reader
+  pub unheld-state : stateOf (readerIn (handleBytes (headIn (live s []) 0) noHeld)) (s .about .memory) ≡ live s []
+  unheld-state = ap (λ (r : Reader). stateOf r (s .about .memory)) back
 
-  pub unheld-ours : HostOurs unheldBytes (s .about .memory)
+  -- and the handle is ours
+  pub unheld-ours : HostOurs (handleBytes (headIn (live s []) 0) noHeld) (s .about .memory)
   unheld-ours =
-      let u : readerIn unheldBytes .used ≡ 0 = ap (λ (r : Reader). r .used) (reader-back (headIn (live s []) 0) noHeld room blank) in
       record {
-        handle-is = laid-handle (headIn (live s []) 0) noHeld (room .session) blank;
-        ours = kept-ours (readerIn unheldBytes) (s .about .memory) (subst Kept (sym unheld-state) k) (omega (arith, u));
+        handle-is = laid-handle head noHeld (k .sound .ten) blank;
+        ours =
+            kept-ours (readerIn (handleBytes head noHeld)) (s .about .memory) (subst Kept (sym unheld-state) k)
+            (omega (arith, ap (λ (r : Reader). r .used) back));
       }

@@ -1,4 +1,4 @@
--- DEMAND 3 FOR A HOST IN C, SECOND HALF: stop, save, restore, log in again, and go on as the run that never stopped.
+-- DEMAND 3 FOR A HOST IN C, SECOND HALF: stop, save, restore, log in again, and go on as the host that never stopped.
 -- Assumes nothing.
 use mathlib.Core.Path.{_≡_, refl, sym, ap, _∙_, subst}
 use mathlib.Core.Logic.{_⊎_}
@@ -33,9 +33,9 @@ use Rattle.demands.proofs.Kept.{ours-within}
 use Rattle.demands.proofs.Saved.{ours-saved, comes-back}
 use Rattle.demands.proofs.Stopped.{Took, called-took, stopped-at}
 use Rattle.demands.proofs.Resume.{stopped-logged, given-bytes, resumed, restored-kept}
-use Rattle.hosts.specs.Runs.{HostRun, HostDone}
+use Rattle.hosts.specs.Runs.{HostCalls, HostDone}
 use Rattle.hosts.proofs.Laid.{HostOurs, own-used}
-use Rattle.hosts.proofs.Runs.{Fresh, unheld-fresh, own-unfinished, run-called, run-ours, run-read}
+use Rattle.hosts.proofs.Runs.{Fresh, unheld-fresh, own-unfinished, calls-called, calls-ours, calls-read}
 
 -- THEOREM: handles that are the same reader have the same head, byte for byte what the head's fields say
 pub same-heads : (h t h′ t′ : List ℕ) → HostOurs h t → HostOurs h′ t′ → stateOf (readerIn h) t ≡ stateOf (readerIn h′) t′ → headOf h ≡ headOf h′
@@ -49,10 +49,10 @@ out-of : (s : Saved) (z : List ℕ) → writtenOf s z .out ≡ z
 out-of (Whole n) z = refl
 out-of (Unsaved r) z = refl
 
--- A handle of ours, by its own bytes neither ended nor refused, is stepped with bytes. It is logged in, or a login is among them, and it is stopped before
--- any end.
+-- A handle of ours, by its own bytes neither ended nor refused, is given bytes by steps and runs. It is logged in, or a login is among them, and it is
+-- stopped before any end.
 module _ (h₀ t₀ : List ℕ) (o₀ : HostOurs h₀ t₀) (open₀ : (headOf h₀ .refusal ≡ 0) × (headOf h₀ .ended ≡ false))
-    (bs : List ℕ) (bytes : Bytes bs) (es : List (Event Said)) (handle table rest : List ℕ) (before : HostRun h₀ t₀ bs es handle table rest)
+    (bs : List ℕ) (bytes : Bytes bs) (es : List (Event Said)) (handle table rest : List ℕ) (before : HostCalls h₀ t₀ bs es handle table rest)
     (logged : LoggedIn (headOf h₀ .line) ⊎ (anyLogin es ≡ true)) (unended : headOf handle .ended ≡ false) where
   abbrev session₀ : Session Table
   session₀ = sessionOf (headOf h₀ .line) (headOf h₀ .board) t₀
@@ -67,14 +67,14 @@ module _ (h₀ t₀ : List ℕ) (o₀ : HostOurs h₀ t₀) (open₀ : (headOf h
   begun = rw (open₀ .0, open₀ .1)
 
   own : HostOurs handle table
-  own = run-ours before o₀ bytes
+  own = calls-ours before o₀ bytes
 
   -- THEOREM: there is a last accepted packet, and bytes that follow it: those that are held or were refused, and those that were not taken
   pub stopped : StoppedAt session₀ held₀ bs es session
   stopped =
       stopped-at session₀ held₀ bs rest (readerIn handle) table
       (subst (λ (st : State (Session Table)). Took (soupBinTCP deliver) st bs es (stateOf (readerIn handle) table) rest) begun
-      (called-took (soupBinTCP deliver) (run-called before o₀ bytes) (own-unfinished h₀ t₀ o₀)))
+      (called-took (soupBinTCP deliver) (calls-called before o₀ bytes) (own-unfinished h₀ t₀ o₀)))
       unended
 
   is-logged-in : LoggedIn (headOf handle .line)
@@ -154,13 +154,13 @@ module _ (h₀ t₀ : List ℕ) (o₀ : HostOurs h₀ t₀) (open₀ : (headOf h
           unheld-fresh (restored session) (restored-kept session (own .ours .sound)) a₂ (restoreNumber (came .verdict)) h₂ t₂
           (restore-is ∙ ap (λ (st : State (Session Table)). unheld (restoreNumber (came .verdict)) st 0) (back .1))
 
-      -- THEOREM: the restored handle is given a login for the saved session and number, and then the bytes that follow the last accepted packet. By
-      -- its answers and event memory the later events, and the table and any refusal, are those of the run that never stopped.
+      -- THEOREM: the restored handle is given a login for the saved session and number, and then the bytes that follow the last accepted packet. Its
+      -- later events, the table and any refusal are those of the host that never stopped.
       pub goes-on : (s : StoppedAt session₀ held₀ bs es session) (es₁ : List (Event Said)) (h₃ t₃ rest₁ : List ℕ)
-          → HostRun h₂ t₂ (loginPacket (headOf handle .line .session) (headOf handle .line .next) ++ s .following) es₁ h₃ t₃ rest₁
+          → HostCalls h₂ t₂ (loginPacket (headOf handle .line .session) (headOf handle .line .next) ++ s .following) es₁ h₃ t₃ rest₁
           → HostDone h₃ rest₁
           → (es₂ : List (Event Said)) (h₄ t₄ rest₂ : List ℕ)
-          → HostRun h₀ t₀ bs es₂ h₄ t₄ rest₂ → HostDone h₄ rest₂
+          → HostCalls h₀ t₀ bs es₂ h₄ t₄ rest₂ → HostDone h₄ rest₂
           → GoesOn session es es₁ es₂ (readerIn h₃) t₃ (readerIn h₄) t₄ × (headOf h₃ ≡ headOf h₄)
       goes-on s es₁ h₃ t₃ rest₁ later none₁ es₂ h₄ t₄ rest₂ never none₂ =
           let j = soupBinTCP deliver in
@@ -169,7 +169,7 @@ module _ (h₀ t₀ : List ℕ) (o₀ : HostOurs h₀ t₀) (open₀ : (headOf h
           let on : GoesOn session es es₁ es₂ (readerIn h₃) t₃ (readerIn h₄) t₄
           = resumed session₀ held₀ bs es session s (own .ours .sound .range) is-logged-in
           es₁ (readerIn h₃) t₃
-          (ap (λ (st : State (Session Table)). reading j st (login ++ s .following)) (sym (waits .state)) ∙ run-read later (waits .ours) given none₁)
+          (ap (λ (st : State (Session Table)). reading j st (login ++ s .following)) (sym (waits .state)) ∙ calls-read later (waits .ours) given none₁)
           es₂ (readerIn h₄) t₄
-          (ap (λ (st : State (Session Table)). reading j st bs) (sym begun) ∙ run-read never o₀ bytes none₂) in
-          (on, same-heads h₃ t₃ h₄ t₄ (run-ours later (waits .ours) given) (run-ours never o₀ bytes) (on .state))
+          (ap (λ (st : State (Session Table)). reading j st bs) (sym begun) ∙ calls-read never o₀ bytes none₂) in
+          (on, same-heads h₃ t₃ h₄ t₄ (calls-ours later (waits .ours) given) (calls-ours never o₀ bytes) (on .state))

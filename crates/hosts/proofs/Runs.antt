@@ -1,4 +1,4 @@
--- DEMAND 3 FOR A HOST IN C, FIRST HALF: whatever pieces it gives, its answers and event memory tell the events of the reading of the uncut bytes.
+-- DEMAND 3 FOR A HOST IN C, FIRST HALF: whatever pieces it gives to steps and runs, it is told the events of the reading of the uncut bytes.
 -- Assumes nothing.
 use mathlib.Core.Path.{_≡_, refl, sym, ap, _∙_, subst}
 use mathlib.Core.Bool.{Bool, true, false}
@@ -20,8 +20,9 @@ use Rattle.packet.proofs.Rules.{both, never}
 use Rattle.packet.proofs.Frame.{short-fits}
 use Rattle.packet.proofs.Step as packet-steps
 use Rattle.packet.proofs.Step.{any-caller}
+use Rattle.packet.proofs.Ceiling.{called-on}
 use Rattle.table.specs.Board.{startOf}
-use Rattle.handle.specs.Handle.{handleSize, headOf}
+use Rattle.handle.specs.Handle.{handleSize, headOf, handleBytes}
 use Rattle.record.specs.Places.{recordSize}
 use Rattle.reader.specs.Refusals.{standing}
 use Rattle.reader.specs.Deliver.{Table, Said, deliver}
@@ -29,18 +30,20 @@ use Rattle.reader.specs.View.{sessionOf, heldOf, stateOf, Seen, seen, heldIn, r
 use Rattle.reader.specs.Calls.{freshOn, verdictNumber, startAll, Starting, stepAll}
 use Rattle.reader.specs.declared.Started.{Started}
 use Rattle.reader.specs.declared.StartAnswer.the-variants.{Ready}
-use Rattle.reader.specs.Handles.{readerIn, Left, left, toldEvent, told, takenIn, kindIn, answerFor, movedBy, Stepped, hostStepped, stepHost, HostSteps}
+use Rattle.reader.specs.Handles.{readerIn, headIn, Left, left, eventNumber, toldNumber, toldMemory, takenIn, kindIn, answerFor, movedBy, Stepped, hostStepped, stepHost, HostSteps}
+use Rattle.reader.specs.Running.{runTakenIn}
 use Rattle.reader.proofs.Back.{StandsSome, Own, all-fits, handle-on, state-on, used-on, answer-on, taken-on}
-use Rattle.nelqubat.specs.Host.{unheld, startedAs, startHost, HostStarts}
+use Rattle.nelqubat.specs.Host.{noHeld, unheld, startedAs, startHost, HostStarts}
 use Rattle.demands.specs.Sound.{begin}
 use Rattle.packet.proofs.Bytes.{bytes-left}
-use Rattle.demands.proofs.Kept.{Kept, ours-kept, kept-ours, ours-within, step-kept}
+use Rattle.demands.proofs.Kept.{Kept, ours-kept, kept-ours, ours-within, unfinished-in, step-kept}
 use Rattle.demands.proofs.View.{endedIn, refusalIn, ended-of, refusal-of}
 use Rattle.demands.proofs.Callers as callers
 use Rattle.demands.proofs.Callers.{next-bytes}
 use Rattle.hosts.specs.Events.{eventsIn}
-use Rattle.hosts.specs.Runs.{HostRun, stop, step, HostDone}
-use Rattle.hosts.proofs.Laid.{stands-low, HostOurs, host-own, unheldBytes, unheld-state, unheld-ours}
+use Rattle.hosts.specs.Runs.{HostCalls, stop, step, run, HostDone}
+use Rattle.hosts.proofs.Laid.{stands-low, HostOurs, host-own, unheld-state, unheld-ours}
+use Rattle.hosts.proofs.Ceiling.{run-went, ran-called}
 
 -- ---- one step
 
@@ -52,8 +55,8 @@ pub record Went (a : ℕ) (handle′ table′ event′ : List ℕ) (x : stream.S
   pub taken : takenIn a ≡ x .taken
 
 -- the low byte of an answer is the number of a refusal that may stand, or 0
-event-byte : (e : Event Said) (memory : List ℕ) (n : ℕ) → (toldEvent e memory .number + n * 65_536) % 256 ≡ 0
-unfolding toldEvent
+event-byte : (e : Event Said) (memory : List ℕ) (n : ℕ) → (eventNumber e + n * 65_536) % 256 ≡ 0
+unfolding eventNumber
 event-byte (packets.login m session) memory n = omega arith
 event-byte (packets.rejected reason) memory n = omega arith
 event-byte (packets.message x) memory n = omega arith
@@ -85,8 +88,8 @@ step-stands (live s held) piece k = framed-stands s held piece (frame (held ++ p
 step-stands (ended s held) piece k = tt
 step-stands (refused s held e n) piece k = k .stands
 
-low-byte : (a : stream.Answer (Event Said)) (memory : List ℕ) (n : ℕ) → AnswerStands a → (told a memory .number + n * 65_536) % 256 ≡ 20 → ⊥
-unfolding told
+low-byte : (a : stream.Answer (Event Said)) (memory : List ℕ) (n : ℕ) → AnswerStands a → (toldNumber a + n * 65_536) % 256 ≡ 20 → ⊥
+unfolding toldNumber toldMemory
 low-byte (stream.Event x) memory n f e = omega (arith, event-byte x memory n)
 low-byte stream.More memory n f e = omega arith
 low-byte stream.Ended memory n f e = omega arith
@@ -117,8 +120,8 @@ step-stops (live s held) piece z = framed-stops s held piece (frame (held ++ pie
 step-stops (ended s held) piece z = refl
 step-stops (refused s held e n) piece z = z
 
-event-kind : (e : Event Said) (memory : List ℕ) (n : ℕ) → kindIn (toldEvent e memory .number + n * 65_536) ≤ 6
-unfolding toldEvent
+event-kind : (e : Event Said) (memory : List ℕ) (n : ℕ) → kindIn (eventNumber e + n * 65_536) ≤ 6
+unfolding eventNumber
 event-kind (packets.login m session) memory n = omega arith
 event-kind (packets.rejected reason) memory n = omega arith
 event-kind (packets.message x) memory n = omega arith
@@ -126,9 +129,9 @@ event-kind packets.heartbeat memory n = omega arith
 event-kind packets.end memory n = omega arith
 event-kind packets.skipped memory n = omega arith
 
-told-stops : (a : stream.Answer (Event Said)) (memory : List ℕ) (n : ℕ) (st : State (Session Table)) → 7 ≤ kindIn (told a memory .number + n * 65_536)
+told-stops : (a : stream.Answer (Event Said)) (memory : List ℕ) (n : ℕ) (st : State (Session Table)) → 7 ≤ kindIn (toldNumber a + n * 65_536)
     → Stops a st → (endedIn st ≡ true) ⊎ (eqb (refusalIn st) 0 ≡ false)
-unfolding told
+unfolding toldNumber toldMemory
 told-stops (stream.Event x) memory n st k s = absurd (omega (arith, event-kind x memory n))
 told-stops stream.More memory n st k s = absurd (omega arith)
 told-stops stream.Ended memory n st k s = inl s
@@ -156,11 +159,11 @@ module _ (handle table piece event : List ℕ) (o : HostOurs handle table) (b : 
   some = subst (λ (x : Seen). StandsSome (x .step .state)) all (all-fits handle table piece own b .some)
 
   module _ (long : length event ≡ recordSize) where
-    number : a ≡ told (went .answer) event .number + went .taken * 65_536
+    number : a ≡ toldNumber (went .answer) + went .taken * 65_536
     unfolding stepHost movedBy
     number =
         ap (λ (q : Stepped). q .number) (rw (eq-eqb (length event) recordSize long, o .handle-is) at s)
-        ∙ ap (λ (x : Seen). told (x .step .answer) event .number + x .step .taken * 65_536) all
+        ∙ ap (λ (x : Seen). toldNumber (x .step .answer) + x .step .taken * 65_536) all
 
     pub step-went : Went a handle′ table′ event′ went
     step-went =
@@ -212,7 +215,7 @@ module _ (handle table piece event : List ℕ) (o : HostOurs handle table) (b : 
 
   -- one with other event memory changes nothing, takes nothing and tells nothing
   unfit : eqb (length event) recordSize ≡ false → hostStepped a handle′ table′ event′ ≡ hostStepped 2068 handle table event
-  unfolding stepHost told
+  unfolding stepHost toldNumber toldMemory
   unfit e = rw e at s
 
   pub one-ours : HostOurs handle′ table′
@@ -244,23 +247,29 @@ module _ (handle table piece event : List ℕ) (o : HostOurs handle table) (b : 
           → Called (soupBinTCP deliver) before (piece ++ more) (eventsIn (q .number) (q .event) ++ es) last rest)
           (sym (unfit e)) (λ d. d) c
 
--- ---- a run
+-- ---- calls
 
--- the steps of a host are calls of the definitions
-pub run-called : {handle table bs handle′ table′ rest : List ℕ} {es : List (Event Said)} → HostRun handle table bs es handle′ table′ rest
+-- the steps and runs of a host are calls of the definitions
+pub calls-called : {handle table bs handle′ table′ rest : List ℕ} {es : List (Event Said)} → HostCalls handle table bs es handle′ table′ rest
     → HostOurs handle table → Bytes bs → Called (soupBinTCP deliver) (stateOf (readerIn handle) table) bs es (stateOf (readerIn handle′) table′) rest
-run-called stop o b = stream.stop
-run-called (step {handle = handle} {table = table} {handle″ = handle″} {table″ = table″} {rest = rest} {es = es} piece more event a handle′ table′ event′ s c) o b =
+calls-called stop o b = stream.stop
+calls-called (step {handle = handle} {table = table} {handle″ = handle″} {table″ = table″} {rest = rest} {es = es} piece more event a handle′ table′ event′ s c) o b =
     let own = bytes-left piece more b in
     one-called handle table piece event o own a handle′ table′ event′ s more es (stateOf (readerIn handle″) table″) rest
-    (run-called c (one-ours handle table piece event o own a handle′ table′ event′ s) (next-bytes piece more (takenIn a) b))
+    (calls-called c (one-ours handle table piece event o own a handle′ table′ event′ s) (next-bytes piece more (takenIn a) b))
+calls-called (run {handle = handle} {table = table} piece more n a handle′ table′ s c) o b =
+    let own = bytes-left piece more b in
+    called-on (soupBinTCP deliver) (ran-called handle table piece n o own a handle′ table′ s more)
+    (calls-called c (run-went handle table piece n o own a handle′ table′ s .ours) (next-bytes piece more (runTakenIn a) b))
 
 -- THEOREM: what they leave is a handle within its limits, and a table that keeps its rules
-pub run-ours : {handle table bs handle′ table′ rest : List ℕ} {es : List (Event Said)} → HostRun handle table bs es handle′ table′ rest
+pub calls-ours : {handle table bs handle′ table′ rest : List ℕ} {es : List (Event Said)} → HostCalls handle table bs es handle′ table′ rest
     → HostOurs handle table → Bytes bs → HostOurs handle′ table′
-run-ours stop o b = o
-run-ours (step {handle = handle} {table = table} piece more event a handle′ table′ event′ s c) o b =
-    run-ours c (one-ours handle table piece event o (bytes-left piece more b) a handle′ table′ event′ s) (next-bytes piece more (takenIn a) b)
+calls-ours stop o b = o
+calls-ours (step {handle = handle} {table = table} piece more event a handle′ table′ event′ s c) o b =
+    calls-ours c (one-ours handle table piece event o (bytes-left piece more b) a handle′ table′ event′ s) (next-bytes piece more (takenIn a) b)
+calls-ours (run {handle = handle} {table = table} piece more n a handle′ table′ s c) o b =
+    calls-ours c (run-went handle table piece n o (bytes-left piece more b) a handle′ table′ s .ours) (next-bytes piece more (runTakenIn a) b)
 
 pub done-left : (handle table rest : List ℕ) → HostDone handle rest → NothingLeft (stateOf (readerIn handle) table) rest
 done-left handle table rest d = by d
@@ -276,13 +285,13 @@ done-left handle table rest d = by d
     by (inr (inr r)) = both None (eqb (headOf handle .refusal) 0) (λ f. absurd (r (eqb-true (headOf handle .refusal) 0 f))) (λ _. tt)
 
 pub own-unfinished : (handle table : List ℕ) → HostOurs handle table → Unfinished (stateOf (readerIn handle) table)
-own-unfinished handle table o = callers.unfinished-in (readerIn handle) table (o .ours)
+own-unfinished handle table o = unfinished-in (readerIn handle) table (o .ours)
 
-pub run-read : {handle table bs handle′ table′ rest : List ℕ} {es : List (Event Said)} → HostRun handle table bs es handle′ table′ rest
+pub calls-read : {handle table bs handle′ table′ rest : List ℕ} {es : List (Event Said)} → HostCalls handle table bs es handle′ table′ rest
     → HostOurs handle table → Bytes bs → HostDone handle′ rest
     → reading (soupBinTCP deliver) (stateOf (readerIn handle) table) bs ≡ record { events = es; state = stateOf (readerIn handle′) table′ }
-run-read {handle = handle} {table = table} {handle′ = handle′} {table′ = table′} {rest = rest} c o b none =
-    any-caller (soupBinTCP deliver) (run-called c o b) (own-unfinished handle table o) (done-left handle′ table′ rest none)
+calls-read {handle = handle} {table = table} {handle′ = handle′} {table′ = table′} {rest = rest} c o b none =
+    any-caller (soupBinTCP deliver) (calls-called c o b) (own-unfinished handle table o) (done-left handle′ table′ rest none)
 
 -- ---- a handle that holds nothing
 
@@ -293,10 +302,10 @@ pub record Fresh (handle table : List ℕ) (s : Session Table) : Type 0 where
 pub unheld-fresh : (s : Session Table) → Kept (live s []) → (a n : ℕ) (handle table : List ℕ) → left a handle table ≡ unheld n (live s []) 0
     → Fresh handle table s
 unheld-fresh s k a n handle table e =
-    let h : handle ≡ unheldBytes s k = ap (λ (q : Left). q .handle) e in
+    let h : handle ≡ handleBytes (headIn (live s []) 0) noHeld = ap (λ (q : Left). q .handle) e in
     let t : table ≡ s .about .memory = ap (λ (q : Left). q .table) e in
     record {
-      ours = subst (λ (y : List ℕ). HostOurs y table) (sym h) (subst (HostOurs (unheldBytes s k)) (sym t) (unheld-ours s k));
+      ours = subst (λ (y : List ℕ). HostOurs y table) (sym h) (subst (HostOurs (handleBytes (headIn (live s []) 0) noHeld)) (sym t) (unheld-ours s k));
       state = (λ i. stateOf (readerIn (h i)) (t i)) ∙ unheld-state s k;
     }
 
@@ -327,15 +336,15 @@ module _ (hm tm : List ℕ) (a : ℕ) (handle table : List ℕ) (start : HostSta
       a (verdictNumber (o .applied .verdict)) handle table
       (start-long ∙ ap (λ (st : State (Session Table)). unheld (verdictNumber (o .applied .verdict)) st 0) w)
 
-  -- THEOREM: ANY HOST, ANY PIECES. Of a handle that was started without refusal, steps with handle and table handed on untouched and until no byte is
-  -- left or the reader has ended or refused, tell by their answers and event memory the events, in order, and leave the reader and the table of the
-  -- reading of the uncut bytes.
-  pub any-host : {bs handle′ table′ rest : List ℕ} {es : List (Event Said)} → Bytes bs → HostRun handle table bs es handle′ table′ rest
+  -- THEOREM: ANY HOST, ANY PIECES. Of a handle that was started without refusal, steps and runs with handle and table handed on untouched and until no
+  -- byte is left or the reader has ended or refused, leave the reader and the table of the reading of the uncut bytes, and its events are, in order, those
+  -- that the steps tell by their answers and event memory and those of the bytes that the runs take.
+  pub any-host : {bs handle′ table′ rest : List ℕ} {es : List (Event Said)} → Bytes bs → HostCalls handle table bs es handle′ table′ rest
       → HostDone handle′ rest → reading (soupBinTCP deliver) (live begin []) bs ≡ record { events = es; state = stateOf (readerIn handle′) table′ }
   any-host {bs} b c none =
-      ap (λ (st : State (Session Table)). reading (soupBinTCP deliver) st bs) (sym (started .state)) ∙ run-read c (started .ours) b none
+      ap (λ (st : State (Session Table)). reading (soupBinTCP deliver) st bs) (sym (started .state)) ∙ calls-read c (started .ours) b none
 
   -- THEOREM: what they leave is a handle within its limits, and a table that keeps its rules, however many bytes are left
-  pub rules-kept : {bs handle′ table′ rest : List ℕ} {es : List (Event Said)} → Bytes bs → HostRun handle table bs es handle′ table′ rest
+  pub rules-kept : {bs handle′ table′ rest : List ℕ} {es : List (Event Said)} → Bytes bs → HostCalls handle table bs es handle′ table′ rest
       → HostOurs handle′ table′
-  rules-kept b c = run-ours c (started .ours) b
+  rules-kept b c = calls-ours c (started .ours) b

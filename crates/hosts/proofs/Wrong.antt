@@ -1,21 +1,26 @@
--- The wrong libraries: a piece that a started handle answers, whatever step keeps the promise.
+-- The wrong libraries: a piece that a started handle answers, whatever step or run keeps the promise.
 -- Assumes nothing.
-use mathlib.Core.Path.{_≡_, ap, _∙_}
+use mathlib.Core.Path.{_≡_, refl, ap, _∙_}
 use mathlib.Core.List.{List, [], _∷_}
-use Prim.Native.Nat.{ℕ, zero, suc}
+use Prim.Native.Nat.{ℕ, zero, suc, _≤_}
+use native.Mathlib.Omega.{arith}
 use lib.Dec.{lit<}
 use lib.ListN.{length}
 use Rattle.field.specs.Bytes.{value, Bytes}
 use Rattle.packet.specs.Frame.{framed, frame}
-use Rattle.packet.specs.Stream.{State, stepOf, eventsOf}
+use Rattle.packet.specs.Stream.{State, live, stepOf, eventsOf}
+use Rattle.packet.specs.Ceiling.{runOf}
 use Rattle.packet.specs.Table.{packetTable, entryOf}
 use Rattle.packet.specs.Line.{packetOf}
 use Rattle.packet.specs.Session.{Session, heartbeat, soupBinTCP}
 use Rattle.record.specs.Places.{recordSize}
 use Rattle.reader.specs.Deliver.{Table, deliver}
-use Rattle.reader.specs.Handles.{takenIn, HostSteps}
+use Rattle.reader.specs.Handles.{readerIn, takenIn, HostSteps}
+use Rattle.reader.specs.Running.{mostPackets, SeenRun, seenRun, runAll, HostRuns, runTakenIn, finishedIn}
 use Rattle.nelqubat.specs.Host.{HostStarts}
+use Rattle.demands.specs.Sound.{begin}
 use Rattle.hosts.specs.Events.{eventsIn}
+use Rattle.hosts.proofs.Ceiling.{run-went, run-is}
 use Rattle.hosts.proofs.Runs.{started, step-went}
 
 abbrev beat : List ℕ
@@ -39,3 +44,23 @@ heartbeat-told hm tm a₀ handle table start ready event long a handle′ table�
       w .taken ∙ ap (λ (st : State (Session Table)). stepOf (soupBinTCP deliver) st beat .taken) (f .state),
       w .events ∙ ap (λ (st : State (Session Table)). eventsOf (stepOf (soupBinTCP deliver) st beat .answer)) (f .state),
     )
+
+-- so too of a run of the definitions, with any ceiling from 1
+beat-run : (n : ℕ) → 1 ≤ n → (let r = runOf (soupBinTCP deliver) n (live begin []) beat in (r .taken ≡ 3) × (r .finished ≡ 1))
+unfolding runOf stepOf frame framed value soupBinTCP packetOf entryOf packetTable
+beat-run zero h = absurd (omega arith)
+beat-run (suc zero) h = (refl, refl)
+beat-run (suc (suc n)) h = (refl, refl)
+
+-- THEOREM: with any ceiling from 1 to 1,000 the answer of a run counts the heartbeat's three bytes and one packet: so no run that answers 0 for ever keeps
+-- the promise
+pub heartbeat-run : (hm tm : List ℕ) (a₀ : ℕ) (handle table : List ℕ) → HostStarts hm tm a₀ handle table → a₀ ≡ 0
+    → (n : ℕ) → 1 ≤ n → n ≤ mostPackets → (a : ℕ) (handle′ table′ : List ℕ) → HostRuns handle table beat n a handle′ table′
+    → (runTakenIn a ≡ 3) × (finishedIn a ≡ 1)
+heartbeat-run hm tm a₀ handle table start ready n some most a handle′ table′ s =
+    let f = started hm tm a₀ handle table start ready in
+    let w = run-went handle table beat n (f .ours) beat-bytes a handle′ table′ s in
+    let e : runAll (readerIn handle) table beat n ≡ seenRun (runOf (soupBinTCP deliver) n (live begin []) beat)
+    = run-is handle table beat n (f .ours) beat-bytes a handle′ table′ s most
+    ∙ ap (λ (st : State (Session Table)). seenRun (runOf (soupBinTCP deliver) n st beat)) (f .state) in
+    (w .taken ∙ ap (λ (q : SeenRun). q .run .taken) e ∙ beat-run n some .0, w .finished ∙ ap (λ (q : SeenRun). q .run .finished) e ∙ beat-run n some .1)

@@ -1,6 +1,7 @@
 // Demand 3 for a host in C, as theorems over the promises of its calls: see specs/ and proofs/. The code here is such a host's own calls, so that
 // what the theorems ask of a call is what the library promises.
 ghost use Rattle.reader.specs.Handles.{HostSteps};
+ghost use Rattle.reader.specs.Running.{HostRuns};
 ghost use Rattle.nelqubat.specs.Host.{HostStarts, HostSaves, HostRestores};
 
 pub fn start(handle: &mut [u8], table: &mut [u8]) -> u32
@@ -13,6 +14,12 @@ pub fn step(handle: &mut [u8], table: &mut [u8], piece: &[u8], event: &mut [u8])
     ensures { λ r. ⌜ HostSteps (now (handle .entry)) (now (table .entry)) (now (piece .entry)) (now (event .entry)) r (now (handle .exit)) (now (table .exit)) (now (event .exit)) ⌝ }
 {
     nelqubat::nelqubat_step(handle, table, piece, event)
+}
+
+pub fn run(handle: &mut [u8], table: &mut [u8], piece: &[u8], ceiling: u32) -> u64
+    ensures { λ r. ⌜ HostRuns (now (handle .entry)) (now (table .entry)) (now (piece .entry)) ceiling r (now (handle .exit)) (now (table .exit)) ⌝ }
+{
+    nelqubat::nelqubat_run(handle, table, piece, ceiling)
 }
 
 pub fn save(handle: &[u8], table: &[u8], out: &mut [u8]) -> u32

@@ -21,10 +21,11 @@ ghost use Rattle.record.specs.Places.{recordSize};
 ghost use Rattle.record.specs.Record.{answered, readAnswer, writeAnswer};
 ghost use Rattle.reader.specs.Saving.{writtenOf, restoreNumber};
 ghost use Rattle.reader.specs.Handles.{HostSteps, GoesOn};
+ghost use Rattle.reader.specs.Running.{HostRuns, RunsOn};
 ghost use Rattle.nelqubat.specs.Host.{noHeld, HostStarts, StartsOn, HostRestores, RestoresOn, savedNumber, SavedFits, HostSaves, lineTo, shownTo, hostVersion, lineHost, FoundFits, foundNumber, findHost};
 
 // The header that the library goes with names the same version.
-const VERSION: u32 = 1;
+const VERSION: u32 = 2;
 
 #[no_mangle]
 pub extern "C" fn nelqubat_version() -> u32
@@ -97,6 +98,21 @@ pub extern "C" fn nelqubat_step(
     ensures { λ _. ⌜ GoesOn (now (handle .entry)) (now (table .entry)) (now (piece .entry)) (now (event .entry)) (now (handle .exit)) (now (table .exit)) ⌝ }
 {
     reader::step(handle, table, piece, event)
+}
+
+// Takes packets of the piece until so many are finished. The second byte of the answer says why it stopped, the two after that how many packets were
+// finished, and the upper half is the count of bytes taken.
+#[no_mangle]
+pub extern "C" fn nelqubat_run(
+    handle: &mut [u8],
+    table: &mut [u8],
+    piece: &[u8],
+    ceiling: u32,
+) -> u64
+    ensures { λ r. ⌜ HostRuns (now (handle .entry)) (now (table .entry)) (now (piece .entry)) ceiling r (now (handle .exit)) (now (table .exit)) ⌝ }
+    ensures { λ _. ⌜ RunsOn (now (handle .entry)) (now (table .entry)) (now (piece .entry)) ceiling (now (handle .exit)) (now (table .exit)) ⌝ }
+{
+    reader::run(handle, table, piece, ceiling)
 }
 
 // What saving said, as a number: 256 times the count of bytes, or the refusal.

@@ -20,7 +20,6 @@ use Rattle.packet.specs.Session.{Session, Event, login, rejected, message, hear
 use Rattle.packet.proofs.Rules.{both}
 use Rattle.packet.proofs.Frame.{short-fits}
 use Rattle.table.specs.Board.{fits}
-use Rattle.table.specs.Memory.{mostRows}
 use Rattle.table.proofs.Ways.{rows-fitting}
 use Rattle.record.specs.Places.{recordSize}
 use Rattle.record.specs.Record.{recordBytes}
@@ -31,24 +30,24 @@ use Rattle.handle.proofs.Rounds.{HeadFits, head-fits, handle-length}
 use Rattle.handle.proofs.Laid.{laid-handle}
 use Rattle.reader.specs.Refusals.{refusalNumber, named}
 use Rattle.reader.specs.Deliver.{Table, Said, said, deliver}
-use Rattle.reader.specs.View.{Seen, seen, sessionOf, readerWith, headPart, heldOf, stateOf, sessionIn, memoryIn, heldIn, answerOf, answerTexts}
+use Rattle.reader.specs.View.{Seen, seen, sessionOf, readerWith, headPart, heldOf, stateOf, memoryIn, heldIn, answerOf, answerTexts}
 use Rattle.reader.specs.Limits.{withinLimits}
 use Rattle.reader.specs.Calls.{stepAll, unfit, Stepping, placesBy, placesAfter}
-use Rattle.reader.specs.Handles.{readerIn, headIn, loginBytes, toldEvent, told, takenIn, kindIn, messageIn, answerFor, answerIn, goneTo, movedBy, Stepped, hostStepped, steppedAs, stepHost, HostSteps, GoesOn}
+use Rattle.reader.specs.Handles.{readerIn, headIn, loginBytes, eventNumber, toldNumber, eventMemory, toldMemory, takenIn, kindIn, messageIn, answerFor, answerIn, goneTo, movedBy, Stepped, hostStepped, steppedAs, stepHost, HostSteps, GoesOn}
 use Rattle.reader.specs.Shapes.{Read, readBack, beside}
 use Rattle.reader.specs.declared.told.Heard.{Heard}
 use Rattle.reader.specs.declared.Reader.{Reader}
 use Rattle.reader.specs.declared.Refusal.the-variants.{Unfit}
 use Rattle.reader.proofs.Ways.{some-number}
 use Rattle.reader.proofs.Kept.{Within, within, named-number}
-use Rattle.reader.proofs.Views.{head-in, session-in, held-in, reader-back}
+use Rattle.reader.proofs.Views.{head-in, held-in, reader-back}
 use Rattle.reader.proofs.Fits.{numbered-named, numbered-low, EventFits, SessionFits, AnswerFits, StateFits, step-fits}
 
 -- ---- AN ANSWER IS READ BACK
 
 pub record ReadBack (a : stream.Answer (Event Said)) (memory : List ℕ) (n : ℕ) : Type 0 where
-  pub answer : answerIn (told a memory .number + n * 65_536) (told a memory .memory) ≡ a
-  pub taken : takenIn (told a memory .number + n * 65_536) ≡ n
+  pub answer : answerIn (toldNumber a + n * 65_536) (toldMemory a memory) ≡ a
+  pub taken : takenIn (toldNumber a + n * 65_536) ≡ n
 
 module _ (memory : List ℕ) (long : length memory ≡ recordSize) (taken : ℕ) where
   -- by the kind in the second byte
@@ -68,7 +67,7 @@ module _ (memory : List ℕ) (long : length memory ≡ recordSize) (taken : ℕ)
       )
 
   event-back : (e : Event Said) → EventFits e → ReadBack (stream.Event e) memory taken
-  unfolding told toldEvent answerFor
+  unfolding toldNumber eventNumber toldMemory eventMemory answerFor
   event-back (login n session) f =
       let b = login-back n session (f .0) (f .1) in
       record {
@@ -95,7 +94,7 @@ module _ (memory : List ℕ) (long : length memory ≡ recordSize) (taken : ℕ)
   event-back skipped f = record { answer = kind-as 6 (1536 + taken * 65_536) memory (omega arith) refl; taken = omega arith }
 
   pub answer-back : (a : stream.Answer (Event Said)) → AnswerFits a → ReadBack a memory taken
-  unfolding told answerFor
+  unfolding toldNumber toldMemory answerFor
   answer-back (stream.Event e) f = event-back e f
   answer-back stream.More f = record { answer = kind-as 0 (0 + taken * 65_536) memory (omega arith) refl; taken = omega arith }
   answer-back stream.Ended f = record { answer = kind-as 7 (1792 + taken * 65_536) memory (omega arith) refl; taken = omega arith }
@@ -120,13 +119,13 @@ StandsSome (live s held) = Unit
 StandsSome (ended s held) = Unit
 StandsSome (refused s held e n) = eqb n 0 ≡ false
 
-state-back : (st : State (Session Table)) (used : ℕ) (places : List ℕ) → StandsSome st → take used places ≡ heldIn st
+pub state-back : (st : State (Session Table)) (used : ℕ) (places : List ℕ) → StandsSome st → take used places ≡ heldIn st
     → stateOf (readerWith (headIn st used) places) (memoryIn st) ≡ st
 state-back (live s held) used places z e = ap (live s) e
 state-back (ended s held) used places z e = ap (ended s) e
 state-back (refused s held over n) used places z e = rw z (ap (λ (x : List ℕ). refused s x over n) e)
 
-used-in : (st : State (Session Table)) (n : ℕ) → headIn st n .used ≡ n
+pub used-in : (st : State (Session Table)) (n : ℕ) → headIn st n .used ≡ n
 used-in (live s held) n = refl
 used-in (ended s held) n = refl
 used-in (refused s held e k) n = refl
@@ -187,18 +186,18 @@ session-head s h e n used low few =
       session = h .ten;
       next = omega (arith, h .most);
       live = h .board .live;
-      rows = h .board .rows;
+      rows = omega (arith, h .board .rows);
       used = omega arith;
       refusal = omega arith;
       event = h .board .event;
     }
 
-state-head : (st : State (Session Table)) (used : ℕ) → StateFits st → used ≤ heldSize → HeadFits (headIn st used)
+pub state-head : (st : State (Session Table)) (used : ℕ) → StateFits st → used ≤ heldSize → HeadFits (headIn st used)
 state-head (live s held) used f few = session-head s f false 0 used (lit< tt) few
 state-head (ended s held) used f few = session-head s f true 0 used (lit< tt) few
 state-head (refused s held e n) used f few = session-head s (f .0) e n used (numbered-low n (f .1)) few
 
-state-some : (st : State (Session Table)) → StateFits st → StandsSome st
+pub state-some : (st : State (Session Table)) → StateFits st → StandsSome st
 state-some (live s held) f = tt
 state-some (ended s held) f = tt
 state-some (refused s held e n) f = ap (λ (k : ℕ). eqb k 0) (sym (f .1 .is)) ∙ some-number (f .1 .refusal)
@@ -210,7 +209,7 @@ pub record Own (handle : List ℕ) : Type 0 where
   pub bytes : Bytes (heldOf (readerIn handle))
 
 -- as of every handle that is bytes
-own-bytes : (handle : List ℕ) → isHandle handle ≡ true → Bytes handle → Own handle
+pub own-bytes : (handle : List ℕ) → isHandle handle ≡ true → Bytes handle → Own handle
 unfolding part
 own-bytes handle is b =
     record {
@@ -245,29 +244,30 @@ module _ (handle table piece : List ℕ) (o : Own handle) where
 
   module _ (p : Bytes piece) (w : Within r table) where
     own-session : SessionFits (sessionOf (r .line) (r .board) table)
+    unfolding fits
     own-session =
         record {
           ten = o .head .session;
+          some = w .some;
           most = w .most;
-          board = record { rows = o .head .rows; live = o .head .live; event = o .head .event };
+          board = record { rows = rows-fitting (r .board .rows) table (w .fitted) .1; live = o .head .live; event = o .head .event };
         }
 
-    own-fits : StateFits st
+    pub own-fits : StateFits st
     own-fits =
         both StateFits (eqb (r .refusal) 0) (λ _. both StateFits (r .ended) (λ _. own-session) (λ _. own-session))
         (λ e. (own-session, record { refusal = named (r .refusal); is = named-number (r .refusal) (w .stands) (eqb-false (r .refusal) 0 e) }))
 
-    own-rows : sessionIn st .about .board .rows ≤ mostRows
-    unfolding fits
-    own-rows = rw (session-in r table) (rows-fitting (r .board .rows) table (w .fitted) .1)
-
     own-used : length (heldIn st) ≡ r .used
     own-used = ap length (held-in r table) ∙ length-take-le (r .used) places (omega (arith, places-long, w .start))
+
+    pub goes-fits-state : StateFits (stepOf (soupBinTCP deliver) st piece .state)
+    goes-fits-state = step-fits st piece (rw (held-in r table) (o .bytes)) p own-fits .state
 
     goes-fits : (let x = seen (stepOf (soupBinTCP deliver) st piece) in Fitting x (placesAfter places (r .used) piece x))
     goes-fits =
         let x = stepOf (soupBinTCP deliver) st piece in
-        let f = step-fits st piece own-rows (rw (held-in r table) (o .bytes)) p own-fits in
+        let f = step-fits st piece (rw (held-in r table) (o .bytes)) p own-fits in
         let q : Places (x .state) (placesBy (x .answer) places (overlay places (r .used) (part piece 0 (x .taken))))
         = subst (λ (n : ℕ). Places (x .state) (placesBy (x .answer) places (overlay places n (part piece 0 (x .taken))))) own-used
         (step-places piece places places-long st (omega (arith, own-used, w .start)) (ap (λ (n : ℕ). take n places) own-used ∙ sym (held-in r table))) in

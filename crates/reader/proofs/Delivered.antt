@@ -1,16 +1,14 @@
 -- The ways through a message that is delivered where its bytes lie: tested, applied to its row, its record written, its number counted.
 -- Assumes nothing.
 use mathlib.Core.Path.{_≡_, refl, sym, ap, _∙_}
-use mathlib.Core.Bool.{Bool, true, false}
+use mathlib.Core.Bool.{true}
 use mathlib.Core.Logic.{_⊎_, inl, inr}
 use mathlib.Core.List.{List}
 use Prim.Native.Nat.{ℕ, _+_, _*_, _≤_, _<_}
 use native.Mathlib.Decide.{ℕ-discrete}
 use native.Mathlib.Omega.{arith}
-use lib.Dec.{eqb}
 use lib.ListN.{length, getD}
 use Rattle.field.specs.Bytes.{part, be}
-use Rattle.field.specs.Limits.{highestNumber}
 use Rattle.field.proofs.Parts.{part-length}
 use Rattle.field.proofs.Numbers.{Lent, lent-bytes}
 use Rattle.message.specs.Layout.{values}
@@ -28,11 +26,8 @@ use Rattle.message.specs.declared.Refusal as messageRefusal
 use Rattle.message.specs.declared.Refusal.the-variants as messageRefusals
 use Rattle.message.proofs.Tested.{test-empty, test-some}
 use Rattle.packet.specs.Frame.{heldSize}
-use Rattle.packet.specs.Line.{counted}
 use Rattle.packet.specs.Numbering.{numberAfter}
-use Rattle.packet.specs.Session.{Session, Event, Delivered, done, denied, delivered}
-use Rattle.packet.specs.declared.Line.{Line}
-use Rattle.record.specs.Record.{answered, recordBytes, readTo}
+use Rattle.packet.specs.Session.{Delivered, done, denied, delivered}
 use Rattle.table.specs.Memory.{Fitting}
 use Rattle.table.specs.Board as tables
 use Rattle.table.specs.Board.{Outcome, withEvent, withLive, fits, effect, applyOf}
@@ -46,14 +41,14 @@ use Rattle.table.specs.declared.wire.Placed.{Placed}
 use Rattle.table.specs.declared.wire.Placed.the-variants.{Kept, Added, Refused}
 use Rattle.table.proofs.Ways.{fitting-rows}
 use Rattle.table.proofs.Wired.{event-wired, end-wired}
-use Rattle.handle.specs.Handle.{handleSize, isHandle, headOf, handleBytes, placesIn, withBoard, nextField, liveField, rowsField, refusalField, eventField, withField}
+use Rattle.handle.specs.Handle.{isHandle, headOf, handleBytes, placesIn, withBoard, nextField, liveField, rowsField, refusalField, eventField, withField}
 use Rattle.handle.specs.declared.Head.{Head}
 use Rattle.handle.proofs.Rounds.{handle-length, session-length}
 use Rattle.handle.proofs.Laid.{handle-back}
 use Rattle.handle.proofs.Single.{next-put, live-put, rows-put, refusal-put, event-put}
 use Rattle.reader.specs.Deliver.{Table, tableOf, Said, said, settledBy, settled, heard, deliver}
 use Rattle.reader.specs.Calls.{verdictNumber}
-use Rattle.reader.specs.Handles.{toldEvent, told, Left, left, Stepped, hostStepped}
+use Rattle.reader.specs.Handles.{eventNumber, toldNumber, Left, left}
 use Rattle.reader.specs.Shapes.{Going, Ready, closedAs, appliedAs, triedAs}
 
 -- ---- a handle as head and places
@@ -157,7 +152,7 @@ module _ (handle : List ℕ) (is : isHandle handle ≡ true) (lent : Lent handle
       ∙ ap (λ (n : ℕ). appliedAs (tables.accepted (withLive n (headOf handle .board)) table) handle) e
       ∙ ap (λ (o : Outcome). appliedAs o handle) (sym (end-wired body (headOf handle .board) m t table f k))
 
--- ---- delivered, with its record
+-- ---- delivered
 
 table-some : (r : tableRefusal.Refusal) → tables.refusalNumber r ≡ 0 → ⊥
 table-some tableRefusals.Unfit e = omega arith
@@ -166,19 +161,19 @@ table-some tableRefusals.NoQuotes e = omega arith
 table-some tableRefusals.FixedField e = omega arith
 table-some tableRefusals.TableFull e = omega arith
 
-module _ (handle table event : List ℕ) (g : Going handle table event) (lent : Lent handle) (body : List ℕ) where
+module _ (handle table : List ℕ) (g : Going handle table) (lent : Lent handle) (body : List ℕ) where
   abbrev here : Table
   here = tableOf (headOf handle .board) table
 
-  refuses : {n : ℕ} → n ≡ tested (readOf body) → (n ≡ 0 → ⊥) → hostStepped n handle table event ≡ triedAs (deliver here body) handle event
+  refuses : {n : ℕ} → n ≡ tested (readOf body) → (n ≡ 0 → ⊥) → left n handle table ≡ triedAs (deliver here body) handle
   refuses {n} e d =
-      ap (λ (x : List ℕ). hostStepped n x table event) (own handle (g .handle-is) lent)
-      ∙ ap (λ (x : Delivered Table Said). triedAs x handle event) (sym (denied-is here body e d))
+      ap (λ (x : List ℕ). left n x table) (own handle (g .handle-is) lent)
+      ∙ ap (λ (x : Delivered Table Said). triedAs x handle) (sym (denied-is here body e d))
 
-  pub tried-empty : length body ≡ 0 → hostStepped 10 handle table event ≡ triedAs (deliver here body) handle event
+  pub tried-empty : length body ≡ 0 → left 10 handle table ≡ triedAs (deliver here body) handle
   tried-empty e = refuses (test-empty body e) (λ z. omega arith)
 
-  pub tried-bad : {n : ℕ} → n ≡ tested (readOf body) → (n ≡ 0 → ⊥) → hostStepped n handle table event ≡ triedAs (deliver here body) handle event
+  pub tried-bad : {n : ℕ} → n ≡ tested (readOf body) → (n ≡ 0 → ⊥) → left n handle table ≡ triedAs (deliver here body) handle
   tried-bad = refuses
 
   -- what was promised of the message that the bytes are
@@ -196,32 +191,17 @@ module _ (handle table event : List ℕ) (g : Going handle table event) (lent : 
     left-is : left r handle′ table′ ≡ appliedAs effect-is handle
     left-is = a (is-message .0) (is-message .1) (is-message .2)
 
-    pub tried-refused : (r ≡ 0 → ⊥) → hostStepped r handle′ table′ event ≡ triedAs (deliver here body) handle event
-    tried-refused d =
-        ap (λ (l : Left). hostStepped (l .number) (l .handle) (l .table) event) left-is
-        ∙ by (effect-is .applied .verdict) (λ y. d (ap (λ (l : Left). l .number) left-is ∙ y))
-        ∙ ap (λ (x : Delivered Table Said). triedAs x handle event) (sym heard-here)
+    pub tried-applied : left r handle′ table′ ≡ triedAs (deliver here body) handle
+    tried-applied =
+        left-is
+        ∙ by (effect-is .applied .verdict)
+        ∙ ap (λ (x : Delivered Table Said). triedAs x handle) (sym heard-here)
       where
-        by : (v : tableVerdict.Verdict) → (verdictNumber v ≡ 0 → ⊥)
-            → hostStepped (verdictNumber v) (handleBytes (withBoard (effect-is .applied .board) (headOf handle)) (placesIn handle)) (effect-is .memory) event
-            ≡ triedAs (settledBy v (said (is-message .0) (is-message .1)) (tableOf (effect-is .applied .board) (effect-is .memory))) handle event
-        by verdict.Accepted h = absurd (h refl)
-        by (verdict.Refused x) h = refl
-
-    pub tried-done : (event′ : List ℕ) → r ≡ 0 → event′ ≡ readTo (readOf body .answer) (readOf body .texts) event .memory
-        → hostStepped 0 handle′ table′ event′ ≡ triedAs (deliver here body) handle event
-    unfolding readTo
-    tried-done event′ y f =
-        ap (hostStepped 0 handle′ table′) (f ∙ ap (λ (x : Reading). readTo (x .answer) (x .texts) event .memory) (is-message .2))
-        ∙ ap (λ (l : Left). hostStepped 0 (l .handle) (l .table) (recordBytes (is-message .0) (is-message .1))) left-is
-        ∙ by (effect-is .applied .verdict) (sym (ap (λ (l : Left). l .number) left-is) ∙ y)
-        ∙ ap (λ (x : Delivered Table Said). triedAs x handle event) (sym heard-here)
-      where
-        by : (v : tableVerdict.Verdict) → verdictNumber v ≡ 0
-            → hostStepped 0 (handleBytes (withBoard (effect-is .applied .board) (headOf handle)) (placesIn handle)) (effect-is .memory) (recordBytes (is-message .0) (is-message .1))
-            ≡ triedAs (settledBy v (said (is-message .0) (is-message .1)) (tableOf (effect-is .applied .board) (effect-is .memory))) handle event
-        by verdict.Accepted h = refl
-        by (verdict.Refused x) h = absurd (table-some x h)
+        by : (v : tableVerdict.Verdict)
+            → left (verdictNumber v) (handleBytes (withBoard (effect-is .applied .board) (headOf handle)) (placesIn handle)) (effect-is .memory)
+            ≡ triedAs (settledBy v (said (is-message .0) (is-message .1)) (tableOf (effect-is .applied .board) (effect-is .memory))) handle
+        by verdict.Accepted = refl
+        by (verdict.Refused x) = refl
 
 -- ---- counted, or refused
 
@@ -244,7 +224,7 @@ deliver-some : (t : Table) (body : List ℕ) → DeniedSome (deliver t body)
 unfolding deliver
 deliver-some t body = heard-some t (readOf body .texts) (readOf body .answer)
 
-module _ (handle table event : List ℕ) (g : Ready handle table event) (r : ℕ) (handle′ table′ event′ : List ℕ) where
+module _ (handle table : List ℕ) (g : Ready handle table) (r : ℕ) (handle′ table′ : List ℕ) where
   abbrev h : Head
   h = headOf handle
 
@@ -255,45 +235,45 @@ module _ (handle table event : List ℕ) (g : Ready handle table event) (r : ℕ
   ten = own-ten handle (g .going .handle-is)
 
   abbrev Tried : Delivered Table Said → Type 0
-  Tried d = hostStepped r handle′ table′ event′ ≡ triedAs d handle event
+  Tried d = left r handle′ table′ ≡ triedAs d handle
 
   -- a refusal stands
   refused-as : (d : Delivered Table Said) {a : ℕ} {handle″ : List ℕ} → Tried d → (r ≡ 0 → ⊥) → a ≡ 2048 + r → handle″ ≡ withField refusalField r handle′
-      → hostStepped a handle″ table′ event′ ≡ closedAs (delivered (h .line) d) handle event
-  unfolding told
-  refused-as (done x t) w z f p = absurd (z (ap (λ (s : Stepped). s .number) w))
+      → left a handle″ table′ ≡ closedAs (delivered (h .line) d) handle
+  unfolding toldNumber
+  refused-as (done x t) w z f p = absurd (z (ap (λ (s : Left). s .number) w))
   refused-as (denied n t) {a} w z f p =
-      let same : r ≡ n = ap (λ (s : Stepped). s .number) w in
-      let put = refusal-put (withBoard (t .board) h) held ten (ap (λ (s : Stepped). s .handle) w) r p in
+      let same : r ≡ n = ap (λ (s : Left). s .number) w in
+      let put = refusal-put (withBoard (t .board) h) held ten (ap (λ (s : Left). s .handle) w) r p in
       let count : a ≡ 2048 + n + 0 * 65_536 = omega (arith, f, same) in
-      (λ i. hostStepped (count i) (put i) (w i .table) (w i .event))
-      ∙ (λ i. hostStepped (2048 + n + 0 * 65_536)
-      (handleBytes (record { line = h .line; board = t .board; ended = g .going .live i; refusal = same i; used = g .unheld i }) held) (t .memory) event)
+      (λ i. left (count i) (put i) (w i .table))
+      ∙ (λ i. left (2048 + n + 0 * 65_536)
+      (handleBytes (record { line = h .line; board = t .board; ended = g .going .live i; refusal = same i; used = g .unheld i }) held) (t .memory))
 
   -- an accepted message takes the next number
   done-as : (d : Delivered Table Said) {handle″ : List ℕ} (next : ℕ) → DeniedSome d → Tried d → r ≡ 0 → next ≡ numberAfter (h .line .next)
-      → handle″ ≡ withField nextField next handle′ → hostStepped 768 handle″ table′ event′ ≡ closedAs (delivered (h .line) d) handle event
-  unfolding told toldEvent
-  done-as (denied n t) next some w z f p = absurd (some (sym (ap (λ (s : Stepped). s .number) w) ∙ z))
+      → handle″ ≡ withField nextField next handle′ → left 768 handle″ table′ ≡ closedAs (delivered (h .line) d) handle
+  unfolding toldNumber eventNumber
+  done-as (denied n t) next some w z f p = absurd (some (sym (ap (λ (s : Left). s .number) w) ∙ z))
   done-as (done x t) next some w z f p =
-      let put = next-put (withBoard (t .board) h) held ten (ap (λ (s : Stepped). s .handle) w) next p in
-      (λ i. hostStepped 768 (put i) (w i .table) (w i .event))
-      ∙ (λ i. hostStepped 768
+      let put = next-put (withBoard (t .board) h) held ten (ap (λ (s : Left). s .handle) w) next p in
+      (λ i. left 768 (put i) (w i .table))
+      ∙ (λ i. left 768
       (handleBytes (record {
         line = record { session = h .line .session; known = h .line .known; logged = h .line .logged; next = f i };
         board = t .board;
         ended = g .going .live i;
         refusal = g .going .unrefused i;
         used = g .unheld i;
-      }) held) (t .memory) (recordBytes (x .message) (x .texts)))
+      }) held) (t .memory))
 
   module _ (body : List ℕ) (e : Tried (deliver (tableOf (h .board) table) body)) where
     pub message-refused : {a : ℕ} {handle″ : List ℕ} → (r ≡ 0 → ⊥) → a ≡ 2048 + r → handle″ ≡ withField refusalField r handle′
-        → hostStepped a handle″ table′ event′ ≡ closedAs (delivered (h .line) (deliver (tableOf (h .board) table) body)) handle event
+        → left a handle″ table′ ≡ closedAs (delivered (h .line) (deliver (tableOf (h .board) table) body)) handle
     message-refused = refused-as (deliver (tableOf (h .board) table) body) e
 
     pub message-done : {handle″ : List ℕ} (next : ℕ) → r ≡ 0 → next ≡ numberAfter (h .line .next) → handle″ ≡ withField nextField next handle′
-        → hostStepped 768 handle″ table′ event′ ≡ closedAs (delivered (h .line) (deliver (tableOf (h .board) table) body)) handle event
+        → left 768 handle″ table′ ≡ closedAs (delivered (h .line) (deliver (tableOf (h .board) table) body)) handle
     message-done next = done-as (deliver (tableOf (h .board) table) body) next (deliver-some (tableOf (h .board) table) body) e
 
 -- a quote's letter is neither S nor M

@@ -57,12 +57,12 @@ use Rattle.table.specs.declared.Refusal as tableRefusal
 use Rattle.table.specs.declared.Refusal.the-variants as tableRefusals
 use Rattle.table.specs.declared.Verdict.{Verdict}
 use Rattle.table.specs.declared.Verdict.the-variants as verdict
-use Rattle.table.proofs.Exactly.{exactly-board, refused-leaves}
+use Rattle.table.proofs.Exactly.{exactly-board, refused-leaves, apply-few}
 use Rattle.record.specs.Record.{Roomy}
 use Rattle.record.proofs.Typed.{roomy}
 use Rattle.reader.specs.Refusals.{refusalNumber, named, namedIn}
 use Rattle.reader.specs.Deliver.{Table, tableOf, Said, said, settledBy, heard, deliver}
-use Rattle.reader.specs.View.{sessionIn, heldIn}
+use Rattle.reader.specs.View.{heldIn}
 use Rattle.reader.specs.declared.Refusal.{Refusal}
 use Rattle.reader.specs.declared.Refusal.the-variants as refusal
 
@@ -113,6 +113,7 @@ name-back refusal.NoRow = refl
 name-back refusal.NoQuotes = refl
 name-back refusal.FixedField = refl
 name-back refusal.TableFull = refl
+name-back refusal.HighCeiling = refl
 
 number-low : (r : Refusal) → refusalNumber r < 256
 number-low refusal.Unfit = lit< tt
@@ -129,6 +130,7 @@ number-low refusal.NoRow = lit< tt
 number-low refusal.NoQuotes = lit< tt
 number-low refusal.FixedField = lit< tt
 number-low refusal.TableFull = lit< tt
+number-low refusal.HighCeiling = lit< tt
 
 -- its name has it, and it has room in a byte
 module _ (n : ℕ) (h : Numbered n) where
@@ -149,23 +151,24 @@ EventFits packets.end = Unit
 EventFits packets.skipped = Unit
 
 pub record BoardFits (b : Board) : Type 0 where
-  pub rows : b .rows < 256 ^ 8
+  pub rows : b .rows ≤ mostRows
   pub live : b .live < 256 ^ 8
   pub event : b .event < 256
 
 pub record SessionFits (s : Session Table) : Type 0 where
   pub ten : length (s .line .session) ≡ 10
+  pub some : 1 ≤ s .line .next
   pub most : s .line .next ≤ highestNumber
   pub board : BoardFits (s .about .board)
 
 -- ---- a message
 
 -- an event code and a live number have room in a record, and so in a head
-board-fits : (b : Board) (m : Message) (t : Texts) (w : Found) → b .rows ≤ mostRows → BoardFits b → Roomy m t → BoardFits (boardAt b m w)
+board-fits : (b : Board) (m : Message) (t : Texts) (w : Found) → boardAt b m w .rows ≤ mostRows → BoardFits b → Roomy m t → BoardFits (boardAt b m w)
 unfolding boardAt
 board-fits b (message.SystemEvent m) t w few h f = record { rows = h .rows; live = h .live; event = f .1 .1 .0 }
 board-fits b (message.Directory m) t (At k) few h f = h
-board-fits b (message.Directory m) t Nothing few h f = record { rows = omega (arith, few); live = h .live; event = h .event }
+board-fits b (message.Directory m) t Nothing few h f = record { rows = few; live = h .live; event = h .event }
 board-fits b (message.TradingAction m) t w few h f = h
 board-fits b (message.ShortQuote m) t w few h f = h
 board-fits b (message.LongQuote m) t w few h f = h
@@ -185,15 +188,16 @@ abbrev DeliveredFits : Delivered Table Said → Type 0
 DeliveredFits (done x t) = EventFits (packets.message x) × BoardFits (t .board)
 DeliveredFits (denied n t) = Numbered n × BoardFits (t .board)
 
-module _ (t : Table) (few : t .board .rows ≤ mostRows) (h : BoardFits (t .board)) where
+module _ (t : Table) (h : BoardFits (t .board)) where
   settled-fits : (m : Message) (texts : Texts) (v : Verdict) (b : Board) (mem : List ℕ)
       → applyOf (t .board) m texts (t .memory) ≡ tables.outcome (record { board = b; verdict = v }) mem → EventFits (packets.message (said m texts))
       → DeliveredFits (settledBy v (said m texts) (tableOf b mem))
   unfolding boardAfter
-  settled-fits m texts verdict.Accepted b mem e f = (
-    f,
-    subst BoardFits (sym (exactly-board (t .board) m texts (t .memory) b mem e)) (board-fits (t .board) m texts (look (t .board) m (t .memory)) few h (f .0)),
-  )
+  settled-fits m texts verdict.Accepted b mem e f =
+      let same : b ≡ boardAt (t .board) m (look (t .board) m (t .memory)) = exactly-board (t .board) m texts (t .memory) b mem e in
+      let few : b .rows ≤ mostRows
+      = subst (λ (o : tables.Outcome). o .applied .board .rows ≤ mostRows) e (apply-few (t .board) (t .memory) (h .rows) m texts) in
+      (f, subst BoardFits (sym same) (board-fits (t .board) m texts (look (t .board) m (t .memory)) (subst (λ (x : Board). x .rows ≤ mostRows) same few) h (f .0)))
   settled-fits m texts (verdict.Refused r) b mem e f = (
     table-numbered r,
     subst BoardFits (sym (refused-leaves (t .board) m texts (t .memory) r b mem e .0)) h,
@@ -215,7 +219,7 @@ module _ (t : Table) (few : t .board .rows ≤ mostRows) (h : BoardFits (t .boar
 -- ---- a packet
 
 -- a rejected login's reason is a byte of its packet
-abbrev Reasoned : List ℕ → Packet → Type 0
+abbrev pub Reasoned : List ℕ → Packet → Type 0
 Reasoned body (packet.Login n) = Unit
 Reasoned body (packet.Rejected reason) = reason ≡ getD body 0 0
 Reasoned body packet.Message = Unit
@@ -244,39 +248,39 @@ module _ (l : Line) (body : List ℕ) where
       both (Reasoned body) (inPlace place (l .logged))
       (λ _. both (Reasoned body) (ofSize size (length body + 1)) (λ _. meant-reasoned means) (λ _. tt)) (λ _. tt)
 
-  reasoned : (letter : ℕ) → Reasoned body (packetOf l letter body)
+  pub reasoned : (letter : ℕ) → Reasoned body (packetOf l letter body)
   unfolding packetOf
   reasoned letter = by-reasoned (entryOf letter packetTable)
 
-abbrev VerdictFits : stream.Verdict (Session Table) (Event Said) → Type 0
+abbrev pub VerdictFits : stream.Verdict (Session Table) (Event Said) → Type 0
 VerdictFits (accept e s) = EventFits e × SessionFits s
 VerdictFits (finish e s) = EventFits e × SessionFits s
 VerdictFits (refuse n s) = Numbered n × SessionFits s
 
-delivered-fits : (l : Line) (d : Delivered Table Said) → length (l .session) ≡ 10 → l .next ≤ highestNumber → (l .next ≡ highestNumber → ⊥) → DeliveredFits d
+delivered-fits : (l : Line) (d : Delivered Table Said) → length (l .session) ≡ 10 → 1 ≤ l .next → l .next ≤ highestNumber → (l .next ≡ highestNumber → ⊥) → DeliveredFits d
     → VerdictFits (delivered l d)
-delivered-fits l (done x t) ten m n f = (f .0, record { ten = ten; most = omega (arith, n, m); board = f .1 })
-delivered-fits l (denied k t) ten m n f = (f .0, record { ten = ten; most = m; board = f .1 })
+delivered-fits l (done x t) ten some m n f = (f .0, record { ten = ten; some = omega (arith, some); most = omega (arith, n, m); board = f .1 })
+delivered-fits l (denied k t) ten some m n f = (f .0, record { ten = ten; some = some; most = m; board = f .1 })
 
-does-fits : (s : Session Table) (body : List ℕ) (p : Packet) → s .about .board .rows ≤ mostRows → Bytes body → SessionFits s → Known (s .line) body p → Reasoned body p
+does-fits : (s : Session Table) (body : List ℕ) (p : Packet) → Bytes body → SessionFits s → Known (s .line) body p → Reasoned body p
     → VerdictFits (does deliver s body p)
-does-fits s body (packet.Login n) few b h k w =
+does-fits s body (packet.Login n) b h k w =
     let ten : length (part body 0 10) ≡ 10 = part-length body 0 10 (omega (arith, k .0)) in (
       (omega (arith, follows-number (s .line) (part body 0 10) n (k .2), h .most), ten),
-      record { ten = ten; most = h .most; board = h .board },
+      record { ten = ten; some = h .some; most = h .most; board = h .board },
     )
-does-fits s body (packet.Rejected reason) few b h k w = (omega (arith, w, b 0), h)
-does-fits s body packet.Message few b h k w =
-    delivered-fits (s .line) (deliver (s .about) body) (h .ten) (h .most) (k .1) (deliver-fits (s .about) few (h .board) body b)
-does-fits s body packet.Heartbeat few b h k w = (tt, h)
-does-fits s body packet.End few b h k w = (tt, h)
-does-fits s body packet.Skipped few b h k w = (tt, h)
-does-fits s body (packet.Refused f) few b h k w = (fault-numbered f, h)
+does-fits s body (packet.Rejected reason) b h k w = (omega (arith, w, b 0), h)
+does-fits s body packet.Message b h k w =
+    delivered-fits (s .line) (deliver (s .about) body) (h .ten) (h .some) (h .most) (k .1) (deliver-fits (s .about) (h .board) body b)
+does-fits s body packet.Heartbeat b h k w = (tt, h)
+does-fits s body packet.End b h k w = (tt, h)
+does-fits s body packet.Skipped b h k w = (tt, h)
+does-fits s body (packet.Refused f) b h k w = (fault-numbered f, h)
 
-packet-fits : (s : Session Table) (letter : ℕ) (body : List ℕ) → s .about .board .rows ≤ mostRows → Bytes body → SessionFits s → VerdictFits (soupBinTCP deliver s letter body)
+pub packet-fits : (s : Session Table) (letter : ℕ) (body : List ℕ) → Bytes body → SessionFits s → VerdictFits (soupBinTCP deliver s letter body)
 unfolding soupBinTCP
-packet-fits s letter body few b h =
-    does-fits s body (packetOf (s .line) letter body) few b h (packet-known (s .line) body letter) (reasoned (s .line) body letter)
+packet-fits s letter body b h =
+    does-fits s body (packetOf (s .line) letter body) b h (packet-known (s .line) body letter) (reasoned (s .line) body letter)
 
 -- ---- a step
 
@@ -298,15 +302,15 @@ judged-fits n (accept e s) f = record { answer = f .0; state = f .1 }
 judged-fits n (finish e s) f = record { answer = f .0; state = f .1 }
 judged-fits n (refuse k s) f = record { answer = f .0; state = (f .1, f .0) }
 
-framed-fits : (s : Session Table) (before piece : List ℕ) (f : Framed) → s .about .board .rows ≤ mostRows → SessionFits s → Bytes (before ++ piece) → frame (before ++ piece) ≡ f
+framed-fits : (s : Session Table) (before piece : List ℕ) (f : Framed) → SessionFits s → Bytes (before ++ piece) → frame (before ++ piece) ≡ f
     → StepFits (stepFramed (soupBinTCP deliver) s before piece f)
-framed-fits s before piece short few h b e = record { answer = tt; state = h }
-framed-fits s before piece (badLength r) few h b e = record { answer = fault-numbered fault.BadLength; state = (h, fault-numbered fault.BadLength) }
-framed-fits s before piece (packet l body r) few h b e =
-    judged-fits (length piece - length r) (soupBinTCP deliver s l body) (packet-fits s l body few (frame-bytes (before ++ piece) e b) h)
+framed-fits s before piece short h b e = record { answer = tt; state = h }
+framed-fits s before piece (badLength r) h b e = record { answer = fault-numbered fault.BadLength; state = (h, fault-numbered fault.BadLength) }
+framed-fits s before piece (packet l body r) h b e =
+    judged-fits (length piece - length r) (soupBinTCP deliver s l body) (packet-fits s l body (frame-bytes (before ++ piece) e b) h)
 
-pub step-fits : (st : State (Session Table)) (piece : List ℕ) → sessionIn st .about .board .rows ≤ mostRows → Bytes (heldIn st) → Bytes piece → StateFits st → StepFits (stepOf (soupBinTCP deliver) st piece)
+pub step-fits : (st : State (Session Table)) (piece : List ℕ) → Bytes (heldIn st) → Bytes piece → StateFits st → StepFits (stepOf (soupBinTCP deliver) st piece)
 unfolding stepOf
-step-fits (live s before) piece few c b h = framed-fits s before piece (frame (before ++ piece)) few h (bytes-append before piece c b) refl
-step-fits (ended s before) piece few c b h = record { answer = tt; state = h }
-step-fits (refused s before e n) piece few c b h = record { answer = h .1; state = h }
+step-fits (live s before) piece c b h = framed-fits s before piece (frame (before ++ piece)) h (bytes-append before piece c b) refl
+step-fits (ended s before) piece c b h = record { answer = tt; state = h }
+step-fits (refused s before e n) piece c b h = record { answer = h .1; state = h }

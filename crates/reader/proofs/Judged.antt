@@ -6,30 +6,27 @@ use mathlib.Core.List.{List}
 use Prim.Native.Nat.{ℕ, _+_, _*_, _≤_, _<_}
 use native.Mathlib.Omega.{arith}
 use lib.ListN.{length}
-use Rattle.field.specs.Bytes.{part, overlay, bytesBe}
+use Rattle.field.specs.Bytes.{overlay}
 use Rattle.field.specs.Limits.{highestNumber}
-use Rattle.field.proofs.Parts.{part-length, overlay-own, overlay-next}
-use Rattle.field.proofs.Numbers.{Lent, digits-length}
+use Rattle.field.proofs.Parts.{part-length, overlay-own}
+use Rattle.field.proofs.Numbers.{Lent}
 use Rattle.packet.specs.Frame.{heldSize}
 use Rattle.packet.specs.Line.{loginSession, loggedIn, packetOf, isMessage}
 use Rattle.packet.specs.Refusals.{faultNumber}
-use Rattle.packet.specs.Stream as stream
-use Rattle.packet.specs.Session.{Session, Event, delivered, does, soupBinTCP}
+use Rattle.packet.specs.Session.{delivered, does, soupBinTCP}
 use Rattle.packet.specs.declared.Line.{Line}
 use Rattle.packet.specs.declared.Fault.{Fault}
 use Rattle.packet.specs.declared.Packet.{Packet}
 use Rattle.packet.specs.declared.Packet.the-variants as packet
 use Rattle.packet.proofs.Rules.{never}
-use Rattle.table.specs.declared.Board.{Board}
-use Rattle.record.specs.Places.{recordSize}
-use Rattle.handle.specs.Handle.{headSize, handleSize, isHandle, headOf, headBytes, handleBytes, placesIn, withLine, endedField, refusalField, withField}
+use Rattle.handle.specs.Handle.{headSize, isHandle, headOf, headBytes, handleBytes, placesIn, withLine, endedField, refusalField, withField}
 use Rattle.handle.specs.declared.Head.{Head}
 use Rattle.handle.proofs.Rounds.{handle-length}
 use Rattle.handle.proofs.Laid.{put-over}
 use Rattle.handle.proofs.Single.{ended-put, refusal-put}
 use Rattle.reader.specs.Refusals.{refusalNumber}
-use Rattle.reader.specs.Deliver.{Table, tableOf, Said, deliver}
-use Rattle.reader.specs.Handles.{loginBytes, toldEvent, told, hostStepped}
+use Rattle.reader.specs.Deliver.{tableOf, deliver}
+use Rattle.reader.specs.Handles.{eventNumber, toldNumber, left}
 use Rattle.reader.specs.Shapes.{Ready, sessionAt, closedAs}
 use Rattle.reader.specs.declared.Refusal.{Refusal}
 use Rattle.reader.proofs.Ways.{message-counts}
@@ -44,16 +41,9 @@ logged-laid handle body h l e f g =
     g ∙ ap (λ (x : Line). overlay handle 0 (headBytes (withLine x h))) f
     ∙ ap (λ (x : Head). overlay handle 0 (headBytes (withLine (loggedIn (x .line) (loginSession body)) x))) e
 
-pub login-told : (n : ℕ) (body memory : List ℕ) {first after : List ℕ} → length memory ≡ recordSize → 10 ≤ length body → first ≡ overlay memory 0 (bytesBe 8 n)
-    → after ≡ overlay first 8 (part body 0 10) → after ≡ overlay memory 0 (loginBytes n (loginSession body))
-login-told n body memory l m e f =
-    let w : length (bytesBe 8 n) ≡ 8 = digits-length 256 8 n in
-    let k : length (part body 0 10) ≡ 10 = part-length body 0 10 m in
-    f ∙ ap (λ (x : List ℕ). overlay x 8 (part body 0 10)) e ∙ (rw w at (overlay-next memory 0 (bytesBe 8 n) (part body 0 10) (omega (arith, w, l, k))))
-
 -- ---- any packet but a message
 
-module _ (handle event : List ℕ) (r : (t : List ℕ) × Ready handle t event) (lent : Lent handle) (letter : ℕ) (body : List ℕ) where
+module _ (handle : List ℕ) (r : (t : List ℕ) × Ready handle t) (lent : Lent handle) (letter : ℕ) (body : List ℕ) where
   abbrev h : Head
   h = headOf handle
 
@@ -75,56 +65,53 @@ module _ (handle event : List ℕ) (r : (t : List ℕ) × Ready handle t event) 
 
   module _ {p : Packet} (e : p ≡ packetOf (h .line) letter body) where
     acts : {q : Packet} (t : List ℕ) → p ≡ q
-        → closedAs (does deliver (sessionAt handle t) body q) handle event ≡ closedAs (soupBinTCP deliver (sessionAt handle t) letter body) handle event
+        → closedAs (does deliver (sessionAt handle t) body q) handle ≡ closedAs (soupBinTCP deliver (sessionAt handle t) letter body) handle
     unfolding soupBinTCP
-    acts t f = ap (λ (x : Packet). closedAs (does deliver (sessionAt handle t) body x) handle event) (sym f ∙ e)
+    acts t f = ap (λ (x : Packet). closedAs (does deliver (sessionAt handle t) body x) handle) (sym f ∙ e)
 
-    pub other-login : {n : ℕ} {handle′ event′ : List ℕ} → 10 ≤ length body → p ≡ packet.Login n
-        → handle′ ≡ overlay handle 0 (headBytes (withLine (loggedIn (h .line) (loginSession body)) h))
-        → event′ ≡ overlay event 0 (loginBytes n (loginSession body)) → (t : List ℕ)
-        → hostStepped 256 handle′ t event′ ≡ closedAs (soupBinTCP deliver (sessionAt handle t) letter body) handle event
-    unfolding told toldEvent
-    other-login {n} l f g k t =
+    pub other-login : {n : ℕ} {handle′ : List ℕ} → 10 ≤ length body → p ≡ packet.Login n
+        → handle′ ≡ overlay handle 0 (headBytes (withLine (loggedIn (h .line) (loginSession body)) h)) → (t : List ℕ)
+        → left 256 handle′ t ≡ closedAs (soupBinTCP deliver (sessionAt handle t) letter body) handle
+    unfolding toldNumber eventNumber
+    other-login {n} l f g t =
         let line : Line = loggedIn (h .line) (loginSession body) in
         let size = handle-length handle is in
         let put = put-over (withLine line h) handle held handle _ (part-length body 0 10 l) size (own-long handle is) (sym (overlay-own handle headSize heldSize (omega (arith, size)))) g in
-        (λ i. hostStepped 256 (put i) t (k i))
-        ∙ ap (λ (x : Head). hostStepped 256 (handleBytes x held) t (overlay event 0 (loginBytes n (loginSession body)))) (idle-is line) ∙ acts t f
+        ap (λ (x : List ℕ). left 256 x t) put ∙ ap (λ (x : Head). left 256 (handleBytes x held) t) (idle-is line) ∙ acts t f
 
-    pub other-rejected : {n : ℕ} {handle′ event′ : List ℕ} → p ≡ packet.Rejected n → handle′ ≡ withField endedField 1 handle → event′ ≡ overlay event 0 (bytesBe 1 n)
-        → (t : List ℕ) → hostStepped 512 handle′ t event′ ≡ closedAs (soupBinTCP deliver (sessionAt handle t) letter body) handle event
-    unfolding told toldEvent
-    other-rejected f g k t =
-        let put = ended-put (idle (h .line)) held (own-ten handle is) idle-here g in
-        (λ i. hostStepped 512 (put i) t (k i)) ∙ acts t f
+    pub other-rejected : {n : ℕ} {handle′ : List ℕ} → p ≡ packet.Rejected n → handle′ ≡ withField endedField 1 handle
+        → (t : List ℕ) → left 512 handle′ t ≡ closedAs (soupBinTCP deliver (sessionAt handle t) letter body) handle
+    unfolding toldNumber eventNumber
+    other-rejected f g t =
+        ap (λ (x : List ℕ). left 512 x t) (ended-put (idle (h .line)) held (own-ten handle is) idle-here g) ∙ acts t f
 
     pub other-heartbeat : p ≡ packet.Heartbeat → (t : List ℕ)
-        → hostStepped 1024 handle t event ≡ closedAs (soupBinTCP deliver (sessionAt handle t) letter body) handle event
-    unfolding told toldEvent
-    other-heartbeat f t = ap (λ (x : List ℕ). hostStepped 1024 x t event) idle-here ∙ acts t f
+        → left 1024 handle t ≡ closedAs (soupBinTCP deliver (sessionAt handle t) letter body) handle
+    unfolding toldNumber eventNumber
+    other-heartbeat f t = ap (λ (x : List ℕ). left 1024 x t) idle-here ∙ acts t f
 
     pub other-end : {handle′ : List ℕ} → p ≡ packet.End → handle′ ≡ withField endedField 1 handle → (t : List ℕ)
-        → hostStepped 1280 handle′ t event ≡ closedAs (soupBinTCP deliver (sessionAt handle t) letter body) handle event
-    unfolding told toldEvent
+        → left 1280 handle′ t ≡ closedAs (soupBinTCP deliver (sessionAt handle t) letter body) handle
+    unfolding toldNumber eventNumber
     other-end f g t =
-        ap (λ (x : List ℕ). hostStepped 1280 x t event) (ended-put (idle (h .line)) held (own-ten handle is) idle-here g) ∙ acts t f
+        ap (λ (x : List ℕ). left 1280 x t) (ended-put (idle (h .line)) held (own-ten handle is) idle-here g) ∙ acts t f
 
     pub other-skipped : p ≡ packet.Skipped → (t : List ℕ)
-        → hostStepped 1536 handle t event ≡ closedAs (soupBinTCP deliver (sessionAt handle t) letter body) handle event
-    unfolding told toldEvent
-    other-skipped f t = ap (λ (x : List ℕ). hostStepped 1536 x t event) idle-here ∙ acts t f
+        → left 1536 handle t ≡ closedAs (soupBinTCP deliver (sessionAt handle t) letter body) handle
+    unfolding toldNumber eventNumber
+    other-skipped f t = ap (λ (x : List ℕ). left 1536 x t) idle-here ∙ acts t f
 
     pub other-refused : {d : Fault} (x : Refusal) {n a : ℕ} {handle′ : List ℕ} → p ≡ packet.Refused d → refusalNumber x ≡ faultNumber d → n ≡ refusalNumber x
         → a ≡ 2048 + n → handle′ ≡ withField refusalField n handle → (t : List ℕ)
-        → hostStepped a handle′ t event ≡ closedAs (soupBinTCP deliver (sessionAt handle t) letter body) handle event
-    unfolding told
+        → left a handle′ t ≡ closedAs (soupBinTCP deliver (sessionAt handle t) letter body) handle
+    unfolding toldNumber
     other-refused {d} x {n} {a} f k j m g t =
         let same : n ≡ faultNumber d = j ∙ k in
         let put = refusal-put (idle (h .line)) held (own-ten handle is) idle-here n g in
         let count : a ≡ 2048 + n + 0 * 65_536 = omega (arith, m) in
-        (λ i. hostStepped (count i) (put i) t event)
-        ∙ (λ i. hostStepped (2048 + same i + 0 * 65_536)
-        (handleBytes (record { line = h .line; board = h .board; ended = false; refusal = same i; used = 0 }) held) t event)
+        (λ i. left (count i) (put i) t)
+        ∙ (λ i. left (2048 + same i + 0 * 65_536)
+        (handleBytes (record { line = h .line; board = h .board; ended = false; refusal = same i; used = 0 }) held) t)
         ∙ acts t f
 
     -- a message is none of them
@@ -142,7 +129,7 @@ is-message packet.End e = absurd (never e)
 is-message packet.Skipped e = absurd (never e)
 is-message (packet.Refused f) e = absurd (never e)
 
-module _ (handle table event : List ℕ) (g : Ready handle table event) (letter : ℕ) (body : List ℕ) {next : ℕ} {logged b : Bool}
+module _ (handle table : List ℕ) (g : Ready handle table) (letter : ℕ) (body : List ℕ) {next : ℕ} {logged b : Bool}
     (n : next ≡ headOf handle .line .next) (l : logged ≡ headOf handle .line .logged)
     (w : (x : Line) (y : List ℕ) → x .logged ≡ logged → x .next ≡ next → b ≡ isMessage (packetOf x letter y)) where
   found : b ≡ isMessage (packetOf (headOf handle .line) letter body)
@@ -153,12 +140,12 @@ module _ (handle table event : List ℕ) (g : Ready handle table event) (letter 
   act-counts e =
       omega (arith, n, message-counts (headOf handle .line) letter body refl (is-message (packetOf (headOf handle .line) letter body) (sym found ∙ e)) (g .going .most))
 
-  pub act-message : {a : ℕ} {handle′ table′ event′ : List ℕ} → b ≡ true
-      → hostStepped a handle′ table′ event′ ≡ closedAs (delivered (headOf handle .line) (deliver (tableOf (headOf handle .board) table) body)) handle event
-      → hostStepped a handle′ table′ event′ ≡ closedAs (soupBinTCP deliver (sessionAt handle table) letter body) handle event
+  pub act-message : {a : ℕ} {handle′ table′ : List ℕ} → b ≡ true
+      → left a handle′ table′ ≡ closedAs (delivered (headOf handle .line) (deliver (tableOf (headOf handle .board) table) body)) handle
+      → left a handle′ table′ ≡ closedAs (soupBinTCP deliver (sessionAt handle table) letter body) handle
   unfolding soupBinTCP
   act-message e f =
-      f ∙ ap (λ (p : Packet). closedAs (does deliver (sessionAt handle table) body p) handle event)
+      f ∙ ap (λ (p : Packet). closedAs (does deliver (sessionAt handle table) body p) handle)
       (sym (is-message (packetOf (headOf handle .line) letter body) (sym found ∙ e)))
 
   pub act-other : b ≡ false → isMessage (packetOf (headOf handle .line) letter body) ≡ false

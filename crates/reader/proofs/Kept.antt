@@ -45,6 +45,7 @@ use Rattle.reader.specs.Calls.{stepAll, Stepping, startAll, Starting}
 use Rattle.reader.specs.Handles.{readerIn, hostWithin}
 use Rattle.reader.specs.Saving.{headerOf, writtenBy, saveAll, Saves, lineOf, restoreAll, Restores}
 use Rattle.reader.specs.declared.Refusal.{Refusal}
+use Rattle.reader.specs.declared.Refusal.the-variants.{HighCeiling}
 use Rattle.reader.specs.declared.Reader.{Reader}
 use Rattle.reader.specs.declared.StepAnswer.the-variants as answer
 use Rattle.reader.specs.declared.StartAnswer.the-variants as started
@@ -179,6 +180,12 @@ within r memory e =
       stands = c .1;
     }
 
+-- and what has it is within them
+pub limits-hold : (r : Reader) (memory : List ℕ) → Within r memory → withinLimits r memory ≡ true
+unfolding withinLimits holdsUnfinished unfinished
+limits-hold r memory w =
+    rw (w .fitted, le-leb 1 (r .line .next) (w .some), le-leb (r .line .next) highestNumber (w .most), le-leb (r .used) heldSize (w .start), w .short, w .stands)
+
 -- ---- names and numbers of standing refusals
 
 abbrev DiffersFrom : List Refusal → ℕ → Type 0
@@ -213,7 +220,7 @@ high n h k d =
 -- a number that may stand, and is some, is that of its name
 pub named-number : (n : ℕ) → standing n ≡ true → (n ≡ 0 → ⊥) → refusalNumber (named n) ≡ n
 unfolding standing named
-named-number n s h = named-in standingRefusals n (λ d. by (leb n 6) refl d s)
+named-number n s h = named-in (HighCeiling ∷ standingRefusals) n (λ d. by (leb n 6) refl (d .1) s)
   where
     by : (t : Bool) → leb n 6 ≡ t → DiffersFrom standingRefusals n → t || (leb 10 n && leb n 16) ≡ true → ⊥
     by true e d g = let l = leb-true n 6 e in low n l (omega arith) d

@@ -7,3 +7,7 @@ pub mod Back
 pub mod Delivered
 pub mod Judged
 pub mod Steps
+pub mod Telling
+pub mod Onward
+pub mod Runs
+pub mod RunsBack

@@ -38,6 +38,7 @@ some-number refusal.NoRow = refl
 some-number refusal.NoQuotes = refl
 some-number refusal.FixedField = refl
 some-number refusal.TableFull = refl
+some-number refusal.HighCeiling = refl
 
 -- ---- what a packet has
 

@@ -12,7 +12,7 @@ use Rattle.packet.specs.Stream as stream
 use Rattle.packet.specs.Stream.{State, live, ended, refused}
 use Rattle.packet.specs.Session.{Session, Event, login, rejected, message, heartbeat, end, skipped}
 use Rattle.record.specs.Places.{recordSize}
-use Rattle.record.specs.Record.{Answered, answered, recordBytes, recordOf}
+use Rattle.record.specs.Record.{recordBytes, recordOf}
 use Rattle.record.specs.declared.Taken.{Taken}
 use Rattle.record.specs.declared.Taken.the-variants.{Is, NoRecord}
 use Rattle.handle.specs.Handle.{isHandle, headOf, handleBytes, placesIn}
@@ -53,25 +53,40 @@ left number handle table = record { number = number; handle = handle; table = ta
 
 -- ---- what is told
 
+-- the second byte of a number is the kind: 1 to 6 for events
+unfoldable pub eventNumber : Event Said → ℕ
+eventNumber (login n session) = 256
+eventNumber (rejected reason) = 512
+eventNumber (message x) = 768
+eventNumber heartbeat = 1024
+eventNumber end = 1280
+eventNumber skipped = 1536
+
+-- 0 where more is wanted, 7 after an end, 8 for a refusal
+unfoldable pub toldNumber : stream.Answer (Event Said) → ℕ
+toldNumber (stream.Event e) = eventNumber e
+toldNumber stream.More = 0
+toldNumber stream.Ended = 1792
+toldNumber (stream.Refused n) = 2048 + n
+
 -- event memory: a login's number and session; a rejected login's reason; a message's record
 abbrev pub loginBytes : ℕ → List ℕ → List ℕ
 loginBytes n session = bytesBe 8 n ++ session
 
--- the second byte is the kind: 1 to 6 for events
-unfoldable pub toldEvent : Event Said → List ℕ → Answered
-toldEvent (login n session) memory = answered 256 (overlay memory 0 (loginBytes n session))
-toldEvent (rejected reason) memory = answered 512 (overlay memory 0 (bytesBe 1 reason))
-toldEvent (message x) memory = answered 768 (recordBytes (x .message) (x .texts))
-toldEvent heartbeat memory = answered 1024 memory
-toldEvent end memory = answered 1280 memory
-toldEvent skipped memory = answered 1536 memory
+unfoldable pub eventMemory : Event Said → List ℕ → List ℕ
+eventMemory (login n session) memory = overlay memory 0 (loginBytes n session)
+eventMemory (rejected reason) memory = overlay memory 0 (bytesBe 1 reason)
+eventMemory (message x) memory = recordBytes (x .message) (x .texts)
+eventMemory heartbeat memory = memory
+eventMemory end memory = memory
+eventMemory skipped memory = memory
 
--- 0 where more is wanted, 7 after an end, 8 for a refusal
-unfoldable pub told : stream.Answer (Event Said) → List ℕ → Answered
-told (stream.Event e) memory = toldEvent e memory
-told stream.More memory = answered 0 memory
-told stream.Ended memory = answered 1792 memory
-told (stream.Refused n) memory = answered (2048 + n) memory
+-- an answer that is no event leaves it
+unfoldable pub toldMemory : stream.Answer (Event Said) → List ℕ → List ℕ
+toldMemory (stream.Event e) memory = eventMemory e memory
+toldMemory stream.More memory = memory
+toldMemory stream.Ended memory = memory
+toldMemory (stream.Refused n) memory = memory
 
 -- ---- and read back from an answer and event memory
 
@@ -137,16 +152,20 @@ abbrev pub hostStepped : ℕ → List ℕ → List ℕ → List ℕ → Stepped
 hostStepped number handle table event = record { number = number; handle = handle; table = table; event = event }
 
 -- the upper half of the number is the count of bytes taken
+abbrev pub turnedAs : Gone → Left
+turnedAs g = left (toldNumber (g .answer) + g .taken * 65_536) (g .handle) (g .table)
+
 abbrev pub steppedAs : Gone → List ℕ → Stepped
 steppedAs g event =
-    hostStepped (told (g .answer) event .number + g .taken * 65_536) (g .handle) (g .table) (told (g .answer) event .memory)
+    let l = turnedAs g in
+    hostStepped (l .number) (l .handle) (l .table) (toldMemory (g .answer) event)
 
 -- 20 for event memory of another length and for bytes that are no handle, and nothing changes
 unfoldable pub stepHost : List ℕ → List ℕ → List ℕ → List ℕ → Stepped
 stepHost handle table piece event =
     cond (eqb (length event) recordSize && isHandle handle)
     (steppedAs (movedBy handle table piece) event)
-    (hostStepped (told (stream.Refused (refusalNumber Unfit)) event .number) handle table event)
+    (hostStepped (toldNumber (stream.Refused (refusalNumber Unfit))) handle table event)
 
 -- THE PROMISE OF A STEP
 abbrev pub HostSteps : List ℕ → List ℕ → List ℕ → List ℕ → ℕ → List ℕ → List ℕ → List ℕ → Type 0

@@ -4,5 +4,6 @@ pub mod View
 pub mod Limits
 pub mod Calls
 pub mod Handles
+pub mod Running
 pub mod Shapes
 pub mod Saving

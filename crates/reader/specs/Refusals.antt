@@ -5,7 +5,7 @@ use mathlib.Core.Bool.{Bool, _&&_, _||_, cond}
 use mathlib.Core.List.{List, [], _∷_}
 use lib.Dec.{eqb, leb}
 use Rattle.reader.specs.declared.Refusal.{Refusal}
-use Rattle.reader.specs.declared.Refusal.the-variants.{Unfit, BadPacketLength, UnknownPacket, WrongPlace, BadForm, NotNext, NumbersUsedUp, UnknownMessage, WrongLength, BadField, NoRow, NoQuotes, FixedField, TableFull}
+use Rattle.reader.specs.declared.Refusal.the-variants.{Unfit, BadPacketLength, UnknownPacket, WrongPlace, BadForm, NotNext, NumbersUsedUp, UnknownMessage, WrongLength, BadField, NoRow, NoQuotes, FixedField, TableFull, HighCeiling}
 
 abbrev pub refusalNumber : Refusal → ℕ
 refusalNumber Unfit = 20
@@ -22,6 +22,7 @@ refusalNumber NoRow = 13
 refusalNumber NoQuotes = 14
 refusalNumber FixedField = 15
 refusalNumber TableFull = 16
+refusalNumber HighCeiling = 27
 
 -- a refusal may stand in a handle: 1 to 6, 10 to 16; 0 where none stands
 unfoldable pub standing : ℕ → Bool
@@ -38,5 +39,6 @@ unfoldable pub namedIn : List Refusal → ℕ → Refusal
 namedIn [] n = Unfit
 namedIn (r ∷ rs) n = cond (eqb n (refusalNumber r)) r (namedIn rs n)
 
+-- of those that may stand, and of 27
 unfoldable pub named : ℕ → Refusal
-named n = namedIn standingRefusals n
+named n = namedIn (HighCeiling ∷ standingRefusals) n

@@ -1,11 +1,15 @@
 -- What the functions within the crate hand to each other. No promise of a public function names any of it.
 -- Assumes nothing.
-use Prim.Native.Nat.{ℕ, _≤_}
+use Prim.Native.Nat.{ℕ, _+_, _-_, _%_, _≤_}
 use mathlib.Core.Path.{_≡_}
-use mathlib.Core.Bool.{true, false}
+use mathlib.Core.Bool.{Bool, true, false, cond, not, _&&_}
 use mathlib.Core.List.{List}
-use lib.ListN.{length, take}
+use lib.Dec.{eqb, leb}
+use lib.ListN.{length, take, drop, getD}
+use Rattle.field.specs.Bytes.{overlay, bytesBe}
 use Rattle.field.specs.Limits.{highestNumber}
+use Rattle.message.specs.Message.{readOf}
+use Rattle.message.specs.Test.{tested}
 use Rattle.packet.specs.Frame.{short, frame, heldSize}
 use Rattle.packet.specs.Stream as stream
 use Rattle.packet.specs.Stream.{live, stepJudged, stepOf}
@@ -13,41 +17,44 @@ use Rattle.packet.specs.Session.{Session, Event, Delivered, done, denied, soupB
 use Rattle.table.specs.Memory.{Fitting}
 use Rattle.table.specs.Board.{Outcome}
 use Rattle.record.specs.Places.{recordSize}
-use Rattle.record.specs.Record.{recordBytes}
-use Rattle.handle.specs.Handle.{isHandle, headOf, handleBytes, placesIn, withBoard}
+use Rattle.record.specs.Record.{readTo}
+use Rattle.handle.specs.Handle.{handleSize, isHandle, headOf, handleBytes, placesIn, withBoard}
+use Rattle.handle.specs.declared.Head.{Head}
 use Rattle.reader.specs.Deliver.{Table, Said, deliver}
 use Rattle.reader.specs.View.{sessionOf, noText, answerOf, answerTexts, seen}
 use Rattle.reader.specs.Calls.{placesAfter, verdictNumber}
-use Rattle.reader.specs.Handles.{hostWithin, Left, left, goneTo, Stepped, hostStepped, steppedAs}
+use Rattle.reader.specs.Handles.{Left, left, loginBytes, takenIn, kindIn, goneTo, turnedAs}
 use Rattle.reader.specs.declared.StepAnswer.{StepAnswer}
 use Rattle.reader.specs.declared.Texts.{Texts}
 use Rattle.reader.specs.declared.told.Heard.{Heard}
 
--- ---- a handle, and what is lent beside it
+-- ---- a handle within its limits, and the table beside it
 
--- within its limits
-pub record Keeping (handle table event : List ℕ) : Type 0 where
-  pub within : hostWithin handle table ≡ true
-  pub long : length event ≡ recordSize
+-- it has neither refused nor ended
+abbrev pub livesOn : Head → Bool
+livesOn h = eqb (h .refusal) 0 && not (h .ended)
 
--- and it goes on
+-- why it takes no packet at its ceiling: the refusal that stands, or 7 for an end, else 9
+abbrev pub stoppedNumber : Head → ℕ
+stoppedNumber h = cond (eqb (h .refusal) 0) (cond (h .ended) 1792 2304) (2048 + h .refusal)
 
-pub record Going (handle table event : List ℕ) : Type 0 where
+-- it goes on
+pub record Going (handle table : List ℕ) : Type 0 where
   pub handle-is : isHandle handle ≡ true
   pub live : headOf handle .ended ≡ false
   pub unrefused : headOf handle .refusal ≡ 0
+  pub some : 1 ≤ headOf handle .line .next
   pub most : headOf handle .line .next ≤ highestNumber
   pub fitting : Fitting (headOf handle .board .rows) table
-  pub long : length event ≡ recordSize
 
 -- nothing is held
-pub record Ready (handle table event : List ℕ) : Type 0 where
-  pub going : Going handle table event
+pub record Ready (handle table : List ℕ) : Type 0 where
+  pub going : Going handle table
   pub unheld : headOf handle .used ≡ 0
 
 -- the bytes of an unfinished packet are held
-pub record Holding (handle table event : List ℕ) : Type 0 where
-  pub going : Going handle table event
+pub record Holding (handle table : List ℕ) : Type 0 where
+  pub going : Going handle table
   pub start : headOf handle .used ≤ heldSize
   pub short : frame (take (headOf handle .used) (placesIn handle)) ≡ short
 
@@ -58,15 +65,43 @@ sessionAt handle table = sessionOf (headOf handle .line) (headOf handle .board) 
 -- ---- what a call leaves
 
 -- one that ends with a packet that was judged, but for the bytes that it takes: nothing is held, and the places stay
-abbrev pub closedAs : stream.Verdict (Session Table) (Event Said) → List ℕ → List ℕ → Stepped
-closedAs v handle event = steppedAs (goneTo (seen (stepJudged 0 v)) (placesIn handle)) event
+abbrev pub closedAs : stream.Verdict (Session Table) (Event Said) → List ℕ → Left
+closedAs v handle = turnedAs (goneTo (seen (stepJudged 0 v)) (placesIn handle))
 
--- a step of a handle that goes on
-abbrev pub goneOn : List ℕ → List ℕ → List ℕ → List ℕ → Stepped
-goneOn handle table piece event =
-    let held = take (headOf handle .used) (placesIn handle) in
-    let x = seen (stepOf (soupBinTCP deliver) (live (sessionAt handle table) held) piece) in
-    steppedAs (goneTo x (placesAfter (placesIn handle) (headOf handle .used) piece x)) event
+-- a step of a handle that goes on, and what it leaves
+abbrev pub stepOn : List ℕ → List ℕ → List ℕ → stream.Stepped (Session Table) (Event Said)
+stepOn handle table piece = stepOf (soupBinTCP deliver) (live (sessionAt handle table) (take (headOf handle .used) (placesIn handle))) piece
+
+abbrev pub goneOn : List ℕ → List ℕ → List ℕ → Left
+goneOn handle table piece =
+    let x = seen (stepOn handle table piece) in
+    turnedAs (goneTo x (placesAfter (placesIn handle) (headOf handle .used) piece x))
+
+-- the number of a step says that a packet was finished
+abbrev pub tellsEvent : ℕ → Bool
+tellsEvent number = leb 1 (kindIn number) && leb (kindIn number) 6
+
+-- ---- what is told of a packet, by the number of its step, the handle after it and the bytes that it begins
+
+-- the message's bytes, behind the length and the letter
+abbrev pub messageAt : ℕ → List ℕ → List ℕ
+messageAt number bytes = take (takenIn number - 3) (drop 3 bytes)
+
+unfoldable pub toldBy : ℕ → List ℕ → List ℕ → List ℕ → List ℕ
+toldBy number handle bytes event =
+    let kind = number % 65_536 in
+    let r = readOf (messageAt number bytes) in
+    cond (eqb kind 768) (readTo (r .answer) (r .texts) event .memory)
+    (cond (eqb kind 256) (overlay event 0 (loginBytes (headOf handle .line .next) (headOf handle .line .session)))
+    (cond (eqb kind 512) (overlay event 0 (bytesBe 1 (getD bytes 3 0))) event))
+
+-- what is asked for it: a message has passed its test, a rejected login has its reason
+pub record Tellable (number : ℕ) (handle bytes event : List ℕ) : Type 0 where
+  pub long : length event ≡ recordSize
+  pub handle-long : length handle ≡ handleSize
+  pub whole : number % 65_536 ≡ 768 → (3 ≤ takenIn number) × (takenIn number ≤ length bytes)
+  pub passed : number % 65_536 ≡ 768 → tested (readOf (messageAt number bytes)) ≡ 0
+  pub reasoned : number % 65_536 ≡ 512 → 4 ≤ length bytes
 
 -- ---- a message, before its number is counted
 
@@ -75,11 +110,10 @@ abbrev pub appliedAs : Outcome → List ℕ → Left
 appliedAs o handle =
     left (verdictNumber (o .applied .verdict)) (handleBytes (withBoard (o .applied .board) (headOf handle)) (placesIn handle)) (o .memory)
 
--- delivered: 0 and its record, or the refusal
-abbrev pub triedAs : Delivered Table Said → List ℕ → List ℕ → Stepped
-triedAs (done x t) handle event =
-    hostStepped 0 (handleBytes (withBoard (t .board) (headOf handle)) (placesIn handle)) (t .memory) (recordBytes (x .message) (x .texts))
-triedAs (denied n t) handle event = hostStepped n (handleBytes (withBoard (t .board) (headOf handle)) (placesIn handle)) (t .memory) event
+-- delivered: 0, or the refusal
+abbrev pub triedAs : Delivered Table Said → List ℕ → Left
+triedAs (done x t) handle = left 0 (handleBytes (withBoard (t .board) (headOf handle)) (placesIn handle)) (t .memory)
+triedAs (denied n t) handle = left n (handleBytes (withBoard (t .board) (headOf handle)) (placesIn handle)) (t .memory)
 
 -- ---- an answer that is read back by value
 

@@ -1,4 +1,4 @@
-// A message, delivered where its bytes lie: tested, applied to its row, and its record written.
+// A message, delivered where its bytes lie: tested, and applied to its row.
 use crate::told;
 use packet::numbering;
 use table::wire::Placed;
@@ -17,7 +17,7 @@ ghost use Rattle.table.specs.Board.{effect};
 ghost use Rattle.table.specs.Wire.{Placeable};
 ghost use Rattle.handle.specs.Handle.{isHandle, headOf};
 ghost use Rattle.reader.specs.Deliver.{tableOf, deliver};
-ghost use Rattle.reader.specs.Handles.{left, hostStepped};
+ghost use Rattle.reader.specs.Handles.{left};
 ghost use Rattle.reader.specs.Shapes.{Going, Ready, closedAs, appliedAs, triedAs};
 
 // The test of some bytes; `size` is the length of a quote with their letter, 0 for any other. A quote's test is small and compiles into this.
@@ -65,10 +65,10 @@ fn apply(size: usize, rows: usize, handle: &mut [u8], table: &mut [u8], body: &[
     place(rows, handle, table, body)
 }
 
-// 0 with the record of the message, or the number of the refusal.
-fn tried(rows: usize, handle: &mut [u8], table: &mut [u8], body: &[u8], event: &mut [u8]) -> u8
-    requires { ⌜ Going (now handle) (now table) (now event) × (rows ≡ headOf (now handle) .board .rows) ⌝ }
-    ensures { λ r. ⌜ hostStepped r (now (handle .exit)) (now (table .exit)) (now (event .exit)) ≡ triedAs (deliver (tableOf (headOf (now (handle .entry)) .board) (now (table .entry))) (now (body .entry))) (now (handle .entry)) (now (event .entry)) ⌝ }
+// 0, or the number of the refusal.
+fn tried(rows: usize, handle: &mut [u8], table: &mut [u8], body: &[u8]) -> u8
+    requires { ⌜ Going (now handle) (now table) × (rows ≡ headOf (now handle) .board .rows) ⌝ }
+    ensures { λ r. ⌜ left r (now (handle .exit)) (now (table .exit)) ≡ triedAs (deliver (tableOf (headOf (now (handle .entry)) .board) (now (table .entry))) (now (body .entry))) (now (handle .entry)) ⌝ }
 {
     if body.len() == 0 {
         return 10;
@@ -79,28 +79,16 @@ fn tried(rows: usize, handle: &mut [u8], table: &mut [u8], body: &[u8], event: &
     if bad != 0 {
         return bad as u8;
     }
-    let r = apply(size, rows, handle, table, body);
-    if r != 0 {
-        return r;
-    }
-    record::put(body, event);
-    0
+    apply(size, rows, handle, table, body)
 }
 
 // A message that may take the next number.
-pub fn message(
-    next: u64,
-    rows: usize,
-    handle: &mut [u8],
-    table: &mut [u8],
-    body: &[u8],
-    event: &mut [u8],
-) -> u32
-    requires { ⌜ Ready (now handle) (now table) (now event) × ((rows ≡ headOf (now handle) .board .rows) × ((next ≡ headOf (now handle) .line .next) × (next < highestNumber))) ⌝ }
-    ensures { λ r. ⌜ hostStepped r (now (handle .exit)) (now (table .exit)) (now (event .exit)) ≡ closedAs (delivered (headOf (now (handle .entry)) .line) (deliver (tableOf (headOf (now (handle .entry)) .board) (now (table .entry))) (now (body .entry)))) (now (handle .entry)) (now (event .entry)) ⌝ }
+pub fn message(next: u64, rows: usize, handle: &mut [u8], table: &mut [u8], body: &[u8]) -> u32
+    requires { ⌜ Ready (now handle) (now table) × ((rows ≡ headOf (now handle) .board .rows) × ((next ≡ headOf (now handle) .line .next) × (next < highestNumber))) ⌝ }
+    ensures { λ r. ⌜ left r (now (handle .exit)) (now (table .exit)) ≡ closedAs (delivered (headOf (now (handle .entry)) .line) (deliver (tableOf (headOf (now (handle .entry)) .board) (now (table .entry))) (now (body .entry)))) (now (handle .entry)) ⌝ }
     ensures { λ r. ⌜ r < 65_536 ⌝ }
 {
-    let r = tried(rows, handle, table, body, event);
+    let r = tried(rows, handle, table, body);
     if r != 0 {
         return told::refuse(r, handle);
     }

@@ -10,19 +10,26 @@ use packet::Line;
 use record::RECORD_SIZE;
 use table::Board;
 ghost use mathlib.Core.Path.{_≡_};
+ghost use mathlib.Core.Bool.{true};
 ghost use lib.ListN.{length};
+ghost use Rattle.record.specs.Places.{recordSize};
 ghost use Rattle.handle.specs.Handle.{handleSize, headOf, handleBytes};
 ghost use Rattle.reader.specs.View.{noText, readerWith, headPart, readyOf};
 ghost use Rattle.reader.specs.Calls.{Stepping, Starting};
-ghost use Rattle.reader.specs.Handles.{readerIn, hostWithin, hostStepped, HostSteps, GoesOn};
-ghost use Rattle.reader.specs.Shapes.{Ready, Holding, Keeping, goneOn};
+ghost use Rattle.reader.specs.Handles.{readerIn, hostWithin, left, toldMemory, turnedAs, movedBy, HostSteps, GoesOn};
+ghost use Rattle.reader.specs.Shapes.{Ready, Holding, livesOn, stoppedNumber, stepOn, goneOn};
+ghost use Rattle.reader.specs.Running.{HostRuns, RunsOn, Running};
 ghost use Rattle.reader.specs.Saving.{lineOf, Saves, Restores};
 
+mod ceiling;
 mod deliver;
 mod limits;
 mod packets;
 pub mod refusals;
 mod told;
+
+// The highest ceiling of a run.
+pub const MOST_PACKETS: u32 = 1000;
 
 // Why a call is refused.
 pub enum Refusal {
@@ -41,6 +48,8 @@ pub enum Refusal {
     NoQuotes,
     FixedField,
     TableFull,
+    // A run was asked for more packets than one call may finish.
+    HighCeiling,
 }
 
 // What an accepted packet tells: a login has its number, a rejected one its reason.
@@ -85,6 +94,22 @@ pub struct Stepped {
     pub texts: Texts,
 }
 
+// Why a run stopped.
+pub enum Why {
+    Ended,
+    Refused(Refusal),
+    Ceiling,
+    More,
+}
+
+// The reader is handed back, with the bytes taken and the packets finished.
+pub struct Ran {
+    pub reader: Reader,
+    pub taken: usize,
+    pub finished: u32,
+    pub why: Why,
+}
+
 pub enum StartAnswer {
     Ready,
     Refused(Refusal),
@@ -110,15 +135,15 @@ pub fn no_text() -> Texts
     }
 }
 
-// Nothing is held: a whole packet is judged where it lies in the piece.
-fn straight(rows: usize, handle: &mut [u8], table: &mut [u8], piece: &[u8], event: &mut [u8]) -> u32
-    requires { ⌜ Ready (now handle) (now table) (now event) × (rows ≡ headOf (now handle) .board .rows) ⌝ }
-    ensures { λ r. ⌜ hostStepped r (now (handle .exit)) (now (table .exit)) (now (event .exit)) ≡ goneOn (now (handle .entry)) (now (table .entry)) (now (piece .entry)) (now (event .entry)) ⌝ }
+// Nothing is held: a whole packet is judged where it lies in the piece, which is handed on as a part of itself so that it goes in registers.
+fn straight(rows: usize, handle: &mut [u8], table: &mut [u8], piece: &[u8]) -> u32
+    requires { ⌜ Ready (now handle) (now table) × (rows ≡ headOf (now handle) .board .rows) ⌝ }
+    ensures { λ r. ⌜ left r (now (handle .exit)) (now (table .exit)) ≡ goneOn (now (handle .entry)) (now (table .entry)) (now (piece .entry)) ⌝ }
 {
-    match packet::front(piece) {
+    match packet::front(&piece[..]) {
         Framing::Short => {
             let taken = piece.len();
-            field::copy(piece, 0, taken, handle, HEAD_SIZE);
+            field::copy(&piece[..], 0, taken, handle, HEAD_SIZE);
             handle::put_used(taken, handle);
             taken as u32 * told::BYTE_TAKEN
         }
@@ -127,13 +152,13 @@ fn straight(rows: usize, handle: &mut [u8], table: &mut [u8], piece: &[u8], even
         }
         Framing::Whole(size) => {
             let end = size + 2;
-            packets::act(rows, handle, table, piece[2], &piece[3..end], event)
+            packets::act(rows, handle, table, piece[2], &piece[3..end])
                 + end as u32 * told::BYTE_TAKEN
         }
     }
 }
 
-// The start of a packet is held: what there is room for of the piece is joined to a copy of it, and read there.
+// The start of a packet is held: what there is room for of the piece is joined to a copy of it, read there and told.
 fn mended(
     rows: usize,
     used: usize,
@@ -142,20 +167,34 @@ fn mended(
     piece: &[u8],
     event: &mut [u8],
 ) -> u32
-    requires { ⌜ Holding (now handle) (now table) (now event) × ((rows ≡ headOf (now handle) .board .rows) × (used ≡ headOf (now handle) .used)) ⌝ }
-    ensures { λ r. ⌜ hostStepped r (now (handle .exit)) (now (table .exit)) (now (event .exit)) ≡ goneOn (now (handle .entry)) (now (table .entry)) (now (piece .entry)) (now (event .entry)) ⌝ }
+    requires { ⌜ Holding (now handle) (now table) × ((rows ≡ headOf (now handle) .board .rows) × ((used ≡ headOf (now handle) .used) × (length (now event) ≡ recordSize))) ⌝ }
+    ensures { λ r. ⌜ left r (now (handle .exit)) (now (table .exit)) ≡ goneOn (now (handle .entry)) (now (table .entry)) (now (piece .entry)) ⌝ }
+    ensures { λ _. ⌜ now (event .exit) ≡ toldMemory (stepOn (now (handle .entry)) (now (table .entry)) (now (piece .entry)) .answer) (now (event .entry)) ⌝ }
 {
     let n = packet::room(used, piece.len());
     let all = packet::joined(&handle[HEAD_SIZE..HANDLE_SIZE], used, piece, n);
     let end = used + n;
     handle::put_used(0, handle);
-    straight(rows, handle, table, &all[..end], event) - used as u32 * told::BYTE_TAKEN
+    let number = straight(rows, handle, table, &all[..end]);
+    told::tell(number, handle, &all[..end], event);
+    number - used as u32 * told::BYTE_TAKEN
 }
 
-// A handle that keeps its limits takes at most one packet.
-fn moved(rows: usize, handle: &mut [u8], table: &mut [u8], piece: &[u8], event: &mut [u8]) -> u32
-    requires { ⌜ Keeping (now handle) (now table) (now event) × (rows ≡ headOf (now handle) .board .rows) ⌝ }
-    ensures { λ r. ⌜ HostSteps (now (handle .entry)) (now (table .entry)) (now (piece .entry)) (now (event .entry)) r (now (handle .exit)) (now (table .exit)) (now (event .exit)) ⌝ }
+// Has a handle neither refused nor ended?
+fn goes_on(handle: &[u8]) -> bool
+    requires { ⌜ length (now handle) ≡ handleSize ⌝ }
+    ensures { λ r. ⌜ r ≡ livesOn (headOf (now (handle .entry))) ⌝ }
+{
+    if handle::refusal(handle) != 0 {
+        return false;
+    }
+    !handle::ended(handle)
+}
+
+// Why a handle takes no packet at its ceiling: it has refused or ended, else the ceiling.
+fn why_stopped(handle: &[u8]) -> u32
+    requires { ⌜ length (now handle) ≡ handleSize ⌝ }
+    ensures { λ r. ⌜ r ≡ stoppedNumber (headOf (now (handle .entry))) ⌝ }
 {
     let refusal = handle::refusal(handle);
     if refusal != 0 {
@@ -164,11 +203,45 @@ fn moved(rows: usize, handle: &mut [u8], table: &mut [u8], piece: &[u8], event: 
     if handle::ended(handle) {
         return told::ENDED;
     }
+    told::CEILING
+}
+
+// A handle that keeps its limits takes at most one packet, and tells it. A message is asked for first: it is told here, and anything else by a call.
+fn moved(rows: usize, handle: &mut [u8], table: &mut [u8], piece: &[u8], event: &mut [u8]) -> u32
+    requires { ⌜ (hostWithin (now handle) (now table) ≡ true) × ((length (now event) ≡ recordSize) × (rows ≡ headOf (now handle) .board .rows)) ⌝ }
+    ensures { λ r. ⌜ HostSteps (now (handle .entry)) (now (table .entry)) (now (piece .entry)) (now (event .entry)) r (now (handle .exit)) (now (table .exit)) (now (event .exit)) ⌝ }
+{
+    if !goes_on(handle) {
+        return why_stopped(handle);
+    }
     let used = handle::used(handle);
     if used == 0 {
-        return straight(rows, handle, table, piece, event);
+        let number = straight(rows, handle, table, piece);
+        if told::is_message(number) {
+            told::tell_message(number, piece, event);
+            return number;
+        }
+        told::tell(number, handle, piece, event);
+        return number;
     }
     mended(rows, used, handle, table, piece, event)
+}
+
+// The same with nothing told. A packet that was cut, which only the first of a run can be, goes the way of a step and is told to memory of its own.
+fn turned(handle: &mut [u8], table: &mut [u8], piece: &[u8]) -> u32
+    requires { ⌜ hostWithin (now handle) (now table) ≡ true ⌝ }
+    ensures { λ r. ⌜ left r (now (handle .exit)) (now (table .exit)) ≡ turnedAs (movedBy (now (handle .entry)) (now (table .entry)) (now (piece .entry))) ⌝ }
+{
+    if !goes_on(handle) {
+        return why_stopped(handle);
+    }
+    let rows = handle::rows(handle);
+    let used = handle::used(handle);
+    if used == 0 {
+        return straight(rows, handle, table, piece);
+    }
+    let mut unheard = [0u8; RECORD_SIZE];
+    mended(rows, used, handle, table, piece, &mut unheard)
 }
 
 // Does a handle keep its limits, with that table memory?
@@ -215,6 +288,21 @@ pub fn step(handle: &mut [u8], table: &mut [u8], piece: &[u8], event: &mut [u8])
         return told::UNFIT;
     }
     moved(rows, handle, table, piece, event)
+}
+
+// Takes packets of the piece until so many are finished, on a handle where it lies, and tells none of them. The low byte of the answer is the refusal,
+// 0 for none, the second why it stopped, the two after that how many packets were finished, and the upper half the count of bytes taken.
+pub fn run(handle: &mut [u8], table: &mut [u8], piece: &[u8], ceiling: u32) -> u64
+    ensures { λ r. ⌜ HostRuns (now (handle .entry)) (now (table .entry)) (now (piece .entry)) ceiling r (now (handle .exit)) (now (table .exit)) ⌝ }
+    ensures { λ _. ⌜ RunsOn (now (handle .entry)) (now (table .entry)) (now (piece .entry)) ceiling (now (handle .exit)) (now (table .exit)) ⌝ }
+{
+    if !within_limits(handle, table) {
+        return told::UNFIT as u64;
+    }
+    if MOST_PACKETS < ceiling {
+        return told::TOO_HIGH as u64;
+    }
+    ceiling::up_to(ceiling, handle, table, piece)
 }
 
 // A handle that holds nothing and has neither ended nor refused.
@@ -330,6 +418,20 @@ impl Reader {
             taken: (number / told::BYTE_TAKEN) as usize,
             answer,
             texts,
+        }
+    }
+
+    // Takes packets of the piece until so many are finished, and tells none: the run on bytes of its own.
+    pub fn run(self, piece: &[u8], table: &mut [u8], ceiling: u32) -> Ran
+        ensures { λ x. ⌜ Running self (now (table .entry)) (now (piece .entry)) ceiling x (now (table .exit)) ⌝ }
+    {
+        let mut handle = self.laid();
+        let number = run(&mut handle, table, piece, ceiling);
+        Ran {
+            reader: Reader::read(&handle),
+            taken: (number / 4294967296) as usize,
+            finished: (number / 65536 % 65536) as u32,
+            why: told::why_back((number % 65536) as u32),
         }
     }
 

@@ -4,7 +4,6 @@ use crate::refusals;
 use crate::told;
 use handle::Head;
 use packet::Packet;
-use packet::SESSION_SIZE;
 ghost use mathlib.Core.Path.{_≡_};
 ghost use mathlib.Core.Bool.{false};
 ghost use mathlib.Core.List.{List};
@@ -13,10 +12,9 @@ ghost use lib.ListN.{length};
 ghost use Rattle.field.specs.Bytes.{overlay};
 ghost use Rattle.packet.specs.Line.{sessionSize, loginSession, loggedIn, packetOf, isMessage};
 ghost use Rattle.packet.specs.Session.{soupBinTCP};
-ghost use Rattle.record.specs.Places.{recordSize};
 ghost use Rattle.handle.specs.Handle.{handleSize, headOf, headBytes, withLine};
 ghost use Rattle.reader.specs.Deliver.{deliver};
-ghost use Rattle.reader.specs.Handles.{loginBytes, hostStepped};
+ghost use Rattle.reader.specs.Handles.{left};
 ghost use Rattle.reader.specs.Shapes.{Ready, sessionAt, closedAs};
 
 // The line after a login with that body.
@@ -40,32 +38,21 @@ fn log_in(handle: &mut [u8], body: &[u8])
     );
 }
 
-// A login's number, and its session.
-fn tell_login(n: u64, body: &[u8], event: &mut [u8])
-    requires { ⌜ (length (now event) ≡ recordSize) × (sessionSize ≤ length (now body)) ⌝ }
-    ensures { λ _. ⌜ now (event .exit) ≡ overlay (now (event .entry)) 0 (loginBytes n (loginSession (now (body .entry)))) ⌝ }
-{
-    field::write8(event, 0, n);
-    field::copy(body, 0, SESSION_SIZE, event, told::SESSION_AT);
-}
-
 // A packet that is no message for the next number.
-fn other(handle: &mut [u8], letter: u8, body: &[u8], event: &mut [u8]) -> u32
-    requires { ⌜ ((t : List ℕ) × Ready (now handle) t (now event)) × (isMessage (packetOf (headOf (now handle) .line) letter (now body)) ≡ false) ⌝ }
-    ensures { λ r. ⌜ ((t : List ℕ) → hostStepped r (now (handle .exit)) t (now (event .exit)) ≡ closedAs (soupBinTCP deliver (sessionAt (now (handle .entry)) t) letter (now (body .entry))) (now (handle .entry)) (now (event .entry))) ⌝ }
+fn other(handle: &mut [u8], letter: u8, body: &[u8]) -> u32
+    requires { ⌜ ((t : List ℕ) × Ready (now handle) t) × (isMessage (packetOf (headOf (now handle) .line) letter (now body)) ≡ false) ⌝ }
+    ensures { λ r. ⌜ ((t : List ℕ) → left r (now (handle .exit)) t ≡ closedAs (soupBinTCP deliver (sessionAt (now (handle .entry)) t) letter (now (body .entry))) (now (handle .entry))) ⌝ }
     ensures { λ r. ⌜ r < 65_536 ⌝ }
 {
     let head = handle::read_head(handle);
     let line = head.line;
     match packet::judge(line, letter, body) {
-        Packet::Login(n) => {
+        Packet::Login(_) => {
             log_in(handle, body);
-            tell_login(n, body, event);
             told::LOGIN
         }
-        Packet::Rejected(reason) => {
+        Packet::Rejected(_) => {
             handle::put_ended(handle);
-            field::write1(event, 0, reason);
             told::REJECTED
         }
         Packet::Message => told::MESSAGE,
@@ -80,21 +67,14 @@ fn other(handle: &mut [u8], letter: u8, body: &[u8], event: &mut [u8]) -> u32
 }
 
 // What a whole packet does.
-pub fn act(
-    rows: usize,
-    handle: &mut [u8],
-    table: &mut [u8],
-    letter: u8,
-    body: &[u8],
-    event: &mut [u8],
-) -> u32
-    requires { ⌜ Ready (now handle) (now table) (now event) × (rows ≡ headOf (now handle) .board .rows) ⌝ }
-    ensures { λ r. ⌜ hostStepped r (now (handle .exit)) (now (table .exit)) (now (event .exit)) ≡ closedAs (soupBinTCP deliver (sessionAt (now (handle .entry)) (now (table .entry))) letter (now (body .entry))) (now (handle .entry)) (now (event .entry)) ⌝ }
+pub fn act(rows: usize, handle: &mut [u8], table: &mut [u8], letter: u8, body: &[u8]) -> u32
+    requires { ⌜ Ready (now handle) (now table) × (rows ≡ headOf (now handle) .board .rows) ⌝ }
+    ensures { λ r. ⌜ left r (now (handle .exit)) (now (table .exit)) ≡ closedAs (soupBinTCP deliver (sessionAt (now (handle .entry)) (now (table .entry))) letter (now (body .entry))) (now (handle .entry)) ⌝ }
     ensures { λ r. ⌜ r < 65_536 ⌝ }
 {
     let next = handle::next(handle);
     if packet::is_message(handle::logged(handle), next, letter) {
-        return deliver::message(next, rows, handle, table, body, event);
+        return deliver::message(next, rows, handle, table, body);
     }
-    other(handle, letter, body, event)
+    other(handle, letter, body)
 }

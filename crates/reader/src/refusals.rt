@@ -24,10 +24,11 @@ pub fn number(r: Refusal) -> u8
         Refusal::NoQuotes => 14,
         Refusal::FixedField => 15,
         Refusal::TableFull => 16,
+        Refusal::HighCeiling => 27,
     }
 }
 
-// The refusal of that number, of those that may stand.
+// The refusal of that number, of those that may stand and 27.
 pub fn named(n: u8) -> Refusal
     ensures { λ r. ⌜ r ≡ named n ⌝ }
 {
@@ -45,6 +46,7 @@ pub fn named(n: u8) -> Refusal
         14 => Refusal::NoQuotes,
         15 => Refusal::FixedField,
         16 => Refusal::TableFull,
+        27 => Refusal::HighCeiling,
         _ => Refusal::Unfit,
     }
 }

@@ -1,13 +1,16 @@
-// What a step tells: the kind of an answer, in the second byte of its number, and event memory. The reader by value reads both back.
+// What a step or a run tells: the kind of an answer, in the second byte of its number, and event memory. The reader by value reads them back.
 use crate::Event;
 use crate::StepAnswer;
 use crate::Texts;
+use crate::Why;
 use crate::no_text;
 use crate::refusals;
 use packet::SESSION_SIZE;
 use record::Taken;
 ghost use mathlib.Core.Path.{_≡_};
-ghost use Prim.Native.Nat.{_+_};
+ghost use mathlib.Core.List.{List};
+ghost use Prim.Native.Nat.{ℕ, _+_, _%_};
+ghost use lib.Dec.{eqb};
 ghost use lib.ListN.{length};
 ghost use Rattle.field.specs.Bytes.{part, be};
 ghost use Rattle.packet.specs.Stream as stream;
@@ -16,7 +19,8 @@ ghost use Rattle.record.specs.Places.{recordSize};
 ghost use Rattle.record.specs.Record.{recordOf};
 ghost use Rattle.handle.specs.Handle.{handleSize, refusalField, withField};
 ghost use Rattle.reader.specs.Handles.{messageIn, answerIn};
-ghost use Rattle.reader.specs.Shapes.{readBack, beside, quietHeard};
+ghost use Rattle.reader.specs.Running.{whyOf, whyIn};
+ghost use Rattle.reader.specs.Shapes.{Tellable, toldBy, readBack, beside, quietHeard};
 
 pub const LOGIN: u32 = 256;
 
@@ -35,8 +39,14 @@ pub const ENDED: u32 = 1792;
 // With the number of the refusal in the low byte.
 pub const REFUSED: u32 = 2048;
 
+// A run has finished as many packets as it was asked for.
+pub const CEILING: u32 = 2304;
+
 // Refused by 20, and nothing was taken.
 pub const UNFIT: u32 = REFUSED + 20;
+
+// A ceiling that is too high, and nothing was taken.
+pub const TOO_HIGH: u32 = REFUSED + 27;
 
 // The upper half of an answer is the count of bytes taken.
 pub const BYTE_TAKEN: u32 = 65536;
@@ -52,6 +62,41 @@ pub fn refuse(r: u8, handle: &mut [u8]) -> u32
 {
     handle::put_refusal(r, handle);
     REFUSED + r as u32
+}
+
+// Is the number of a step that of an accepted message?
+pub fn is_message(number: u32) -> bool
+    ensures { λ r. ⌜ r ≡ eqb (number % 65_536) 768 ⌝ }
+{
+    number % BYTE_TAKEN == MESSAGE
+}
+
+// The record of the message that begins some bytes, by the number of its step.
+pub fn tell_message(number: u32, bytes: &[u8], event: &mut [u8])
+    requires { ⌜ (number % 65_536 ≡ 768) × ((handle : List ℕ) × Tellable number handle (now bytes) (now event)) ⌝ }
+    ensures { λ _. ⌜ ((handle : List ℕ) → now (event .exit) ≡ toldBy number handle (now (bytes .entry)) (now (event .entry))) ⌝ }
+{
+    let end = (number / BYTE_TAKEN) as usize;
+    record::put(&bytes[3..end], event);
+}
+
+// What is told of the packet that begins some bytes, by the number of its step and the handle after it.
+pub fn tell(number: u32, handle: &[u8], bytes: &[u8], event: &mut [u8])
+    requires { ⌜ Tellable number (now handle) (now bytes) (now event) ⌝ }
+    ensures { λ _. ⌜ now (event .exit) ≡ toldBy number (now (handle .entry)) (now (bytes .entry)) (now (event .entry)) ⌝ }
+{
+    if is_message(number) {
+        tell_message(number, bytes, event);
+        return;
+    }
+    let kind = number % BYTE_TAKEN;
+    if kind == LOGIN {
+        handle::copy_login(handle, event);
+        return;
+    }
+    if kind == REJECTED {
+        field::write1(event, 0, bytes[3]);
+    }
 }
 
 // An answer by name, and the texts beside it.
@@ -118,5 +163,18 @@ pub fn read_back(number: u32, event: &[u8]) -> Heard
         6 => quiet(StepAnswer::Event(Event::Skipped)),
         7 => quiet(StepAnswer::Ended),
         _ => quiet(StepAnswer::Refused(refusals::named((number % 256) as u8))),
+    }
+}
+
+// Why a run stopped, by the lower half of its answer.
+pub fn why_back(number: u32) -> Why
+    ensures { λ r. ⌜ whyOf r ≡ whyIn number ⌝ }
+{
+    let kind = number / 256 % 256;
+    match kind {
+        0 => Why::More,
+        7 => Why::Ended,
+        9 => Why::Ceiling,
+        _ => Why::Refused(refusals::named((number % 256) as u8)),
     }
 }

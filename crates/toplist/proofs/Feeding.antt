@@ -1,34 +1,36 @@
--- A run through a piece: what is left of it leads where the whole of it leads, and the turns do not run out before the bytes.
+-- Runs through a piece: what is left of it leads where the whole of it leads, and the turns do not run out before the bytes.
 -- Assumes nothing.
 use mathlib.Core.Path.{_≡_, refl, sym, ap, _∙_, subst}
 use mathlib.Core.Logic.{_⊎_, inl, inr}
 use mathlib.Core.Bool.{Bool, true, false, _&&_, not, cond}
-use mathlib.Core.List.{List, [], _++_, append-nil}
+use mathlib.Core.List.{List, []}
 use Prim.Native.Nat.{ℕ, _+_, _-_, _≤_, _<_}
 use native.Mathlib.Omega.{arith}
 use borrow.Author.Tests.{eqb-true, eq-eqb, ne-eqb}
-use lib.Dec.{eqb}
-use lib.ListN.{length, take, drop, length-take, length-drop}
+use lib.Dec.{eqb, leb}
+use lib.ListN.{length, take, drop, length-drop, take-append-drop}
 use lib.Seq.{take-length, drop-length, drop-drop}
 use Rattle.field.specs.Bytes.{Bytes}
 use Rattle.field.proofs.Bools.{both-left, both-right}
-use Rattle.packet.specs.Stream as stream
-use Rattle.packet.specs.Stream.{State, live, ended, refused, stepOf, reading, NothingLeft, Run, stop}
+use Rattle.packet.specs.Stream.{State, live, ended, refused, reading, NothingLeft, Run, stop}
+use Rattle.packet.specs.Ceiling.{runOf}
 use Rattle.packet.specs.Session.{Session, Event, soupBinTCP}
-use Rattle.packet.proofs.Step.{step-within, step-reads, any-caller}
+use Rattle.packet.proofs.Cut.{reading-cut}
+use Rattle.packet.proofs.Step.{any-caller}
+use Rattle.packet.proofs.Ceiling.{run-within}
 use Rattle.reader.specs.Deliver.{Table, Said, deliver}
-use Rattle.reader.specs.View.{sessionOf, heldOf, stateOf, Seen, seen}
+use Rattle.reader.specs.View.{sessionOf, heldOf, stateOf}
 use Rattle.reader.specs.Limits.{withinLimits}
-use Rattle.reader.specs.Calls.{Stepping, stepAll, unfit}
+use Rattle.reader.specs.Running.{mostPackets, SeenRun, seenRun, refusedRun, runAll, Running}
+use Rattle.reader.specs.declared.Refusal.the-variants.{Unfit, HighCeiling}
 use Rattle.reader.specs.declared.Reader.{Reader}
-use Rattle.reader.specs.declared.Stepped.{Stepped}
+use Rattle.reader.specs.declared.Ran.{Ran}
 use Rattle.demands.specs.Sound.{Ours}
 use Rattle.packet.proofs.Bytes.{bytes-drop}
-use Rattle.demands.proofs.Kept.{ours-within, stepping-is, step-ours}
-use Rattle.demands.proofs.Callers.{unfinished-in, gets-on}
-use Rattle.toplist.specs.Feeding as feeding
-use Rattle.toplist.specs.Feeding.{takesMore, StepsOn, Fed}
-use Rattle.toplist.specs.declared.session.Run as runs
+use Rattle.demands.proofs.Kept.{unfinished-in}
+use Rattle.demands.proofs.Runs.{run-ours, run-counts, run-gets-on}
+use Rattle.toplist.specs.Feeding.{takesMore, RunsFrom, Fed}
+use Rattle.toplist.specs.declared.session.Reached.{Reached}
 
 -- ---- does the reader take more?
 
@@ -56,42 +58,40 @@ nothing r t left = by (eqb (r .refusal) 0) (r .ended)
     by true false f = f refl
     by false end f = tt
 
--- ---- a step takes no more than its piece
+-- ---- a run takes no more than its piece, whatever reader it is given
 
-taken-within : (r : Reader) (memory piece : List ℕ) (s : Stepped) (after : List ℕ) → Stepping r memory piece s after → s .taken ≤ length piece
-unfolding stepAll
-taken-within r memory piece s after e = rw (ap (λ (q : Seen). q .step .taken) e) (by (withinLimits r memory))
+taken-within : (r : Reader) (t piece : List ℕ) (n : ℕ) (x : Ran) (t′ : List ℕ) → Running r t piece n x t′ → x .taken ≤ length piece
+unfolding runAll
+taken-within r t piece n x t′ e = rw (ap (λ (q : SeenRun). q .run .taken) e) (by (withinLimits r t) (leb n mostPackets))
   where
-    by : (b : Bool) → cond b (seen (stepOf (soupBinTCP deliver) (stateOf r memory) piece)) (unfit r memory) .step .taken ≤ length piece
-    by true = step-within (soupBinTCP deliver) (stateOf r memory) piece
-    by false = omega arith
+    by : (fit low : Bool)
+        → cond fit (cond low (seenRun (runOf (soupBinTCP deliver) n (stateOf r t) piece)) (refusedRun HighCeiling r t)) (refusedRun Unfit r t) .run .taken ≤ length piece
+    by true true = run-within (soupBinTCP deliver) n (stateOf r t) piece
+    by true false = omega arith
+    by false low = omega arith
 
 -- what is left of a piece from a place on
 rest-is : (piece : List ℕ) (at : ℕ) → take (length piece - at) (drop at piece) ≡ drop at piece
 rest-is piece at =
     ap (λ (n : ℕ). take n (drop at piece)) (sym (length-drop at piece)) ∙ take-length (drop at piece)
 
-module _ (piece t : List ℕ) (a : runs.Run) (s : Stepped) (t′ : List ℕ) (e : Stepping (a .reader) t (take (length piece - a .at) (drop (a .at) piece)) s t′) where
-  rest : Stepping (a .reader) t (drop (a .at) piece) s t′
-  rest = rw (rest-is piece (a .at)) at e
+pub from-within : (piece t : List ℕ) (a b : Reached) (t′ : List ℕ) → a .at ≤ length piece → RunsFrom a t piece b t′ → b .at ≤ length piece
+from-within piece t a b t′ h from =
+    let w = taken-within (a .reader) t (drop (a .at) piece) mostPackets (from .ran) t′ (from .promise) in
+    omega (arith, w, length-drop (a .at) piece, from .at)
 
-  pub step-ends : a .at ≤ length piece → a .at + s .taken ≤ length piece
-  step-ends h =
-      let w = taken-within (a .reader) t (drop (a .at) piece) s t′ rest in
-      omega (arith, w, length-drop (a .at) piece)
+module _ (piece t : List ℕ) (a : Reached) (x : Ran) (t′ : List ℕ)
+    (e : Running (a .reader) t (take (length piece - a .at) (drop (a .at) piece)) mostPackets x t′) where
+  pub runs-from : RunsFrom a t piece (record { reader = x .reader; at = a .at + x .taken }) t′
+  runs-from = record { ran = x; promise = rw (rest-is piece (a .at)) at e; reader = refl; at = refl }
 
-  pub steps-on : (b : runs.Run) → b .reader ≡ s .reader → b .at ≡ a .at + s .taken → StepsOn a t piece b t′
-  steps-on b f g = record { step = s; promise = rest; reader = f; at = g }
+  pub run-ends : a .at ≤ length piece → a .at + x .taken ≤ length piece
+  run-ends h = from-within piece t a _ t′ h runs-from
 
-pub on-within : (piece t : List ℕ) (a b : runs.Run) (t′ : List ℕ) → a .at ≤ length piece → StepsOn a t piece b t′ → b .at ≤ length piece
-on-within piece t a b t′ h o =
-    let w = taken-within (a .reader) t (drop (a .at) piece) (o .step) t′ (o .promise) in
-    omega (arith, w, length-drop (a .at) piece, o .at)
-
--- ---- the run
+-- ---- the runs
 
 module _ (r₀ : Reader) (t₀ piece : List ℕ) where
-  pub record Along (a : runs.Run) (t : List ℕ) (turns : ℕ) : Type 0 where
+  pub record Along (a : Reached) (t : List ℕ) (turns : ℕ) : Type 0 where
     pub ours : Ours (a .reader) t
     pub state : reading (soupBinTCP deliver) (stateOf (a .reader) t) (drop (a .at) piece) .state ≡ reading (soupBinTCP deliver) (stateOf r₀ t₀) piece .state
     pub room : takesMore (a .reader) ≡ true → length piece ≤ a .at + turns
@@ -99,50 +99,45 @@ module _ (r₀ : Reader) (t₀ piece : List ℕ) where
   pub begins : Ours r₀ t₀ → Along (record { reader = r₀; at = 0 }) t₀ (length piece)
   begins o = record { ours = o; state = refl; room = λ e. omega arith }
 
-  module _ (a b : runs.Run) (t t′ : List ℕ) (turns : ℕ) (bytes : Bytes piece) (more : takesMore (a .reader) ≡ true) (some : a .at < length piece)
-      (on : StepsOn a t piece b t′) (again : 1 ≤ turns) (along : Along a t turns) where
+  module _ (a b : Reached) (t t′ : List ℕ) (turns : ℕ) (bytes : Bytes piece) (more : takesMore (a .reader) ≡ true) (some : a .at < length piece)
+      (from : RunsFrom a t piece b t′) (again : 1 ≤ turns) (along : Along a t turns) where
     abbrev left : List ℕ
     left = drop (a .at) piece
 
-    stepped : stateOf (on .step .reader) t′ ≡ stepOf (soupBinTCP deliver) (stateOf (a .reader) t) left .state
-    stepped =
-        ap (λ (q : Seen). q .step .state)
-        (stepping-is (a .reader) t left (on .step) t′ (ours-within (a .reader) t (along .ours)) (on .promise))
+    left-bytes : Bytes left
+    left-bytes = bytes-drop (a .at) piece bytes
 
-    count : on .step .taken ≡ stepOf (soupBinTCP deliver) (stateOf (a .reader) t) left .taken
-    count =
-        ap (λ (q : Seen). q .step .taken)
-        (stepping-is (a .reader) t left (on .step) t′ (ours-within (a .reader) t (along .ours)) (on .promise))
+    -- what the run leaves of the rest is what is left from where the reader then stands
+    rest-on : drop (from .ran .taken) left ≡ drop (b .at) piece
+    rest-on = drop-drop (from .ran .taken) (a .at) piece ∙ ap (λ (n : ℕ). drop n piece) (sym (from .at))
 
-    -- what the step leaves of the rest is what is left from where the run then stands
-    rest-on : drop (stepOf (soupBinTCP deliver) (stateOf (a .reader) t) left .taken) left ≡ drop (b .at) piece
-    rest-on =
-        ap (λ (n : ℕ). drop n left) (sym count) ∙ drop-drop (on .step .taken) (a .at) piece ∙ ap (λ (n : ℕ). drop n piece) (sym (on .at))
-
+    -- the run is the reading of the bytes that it takes, and the rest is read on from there
     read-on : reading (soupBinTCP deliver) (stateOf (a .reader) t) left .state ≡ reading (soupBinTCP deliver) (stateOf (b .reader) t′) (drop (b .at) piece) .state
     read-on =
         let st = stateOf (a .reader) t in
-        let x = stepOf (soupBinTCP deliver) st left in
-        ap (λ (l : List ℕ). reading (soupBinTCP deliver) st l .state) (sym (append-nil left))
-        ∙ ap (λ (q : Run (Session Table) (Event Said)). q .state)
-        (step-reads (soupBinTCP deliver) st left [] (unfinished-in (a .reader) t (along .ours)))
-        ∙ ap (λ (l : List ℕ). reading (soupBinTCP deliver) (x .state) l .state) (append-nil (drop (x .taken) left) ∙ rest-on)
+        let k = from .ran .taken in
+        let counts = run-counts (a .reader) t left mostPackets (from .ran) t′ (along .ours) left-bytes (from .promise) in
+        ap (λ (l : List ℕ). reading (soupBinTCP deliver) st l .state) (sym (take-append-drop k left))
+        ∙ ap (λ (q : Run (Session Table) (Event Said)). q .state) (reading-cut (soupBinTCP deliver) st (take k left) (drop k left))
+        ∙ ap (λ (l : List ℕ). reading (soupBinTCP deliver) (reading (soupBinTCP deliver) st (take k left) .state) l .state) rest-on
         ∙ ap (λ (y : State (Session Table)). reading (soupBinTCP deliver) y (drop (b .at) piece) .state)
-        (sym stepped ∙ ap (λ (r : Reader). stateOf r t′) (sym (on .reader)))
+        (sym (counts .1) ∙ ap (λ (r : Reader). stateOf r t′) (sym (from .reader)))
 
     pub goes-on : Along b t′ (turns - 1)
     goes-on =
-        let g = gets-on (a .reader) t left (on .step) t′ (along .ours) (alive (a .reader) more) (omega (arith, length-drop (a .at) piece)) (on .promise) in
+        let g =
+        run-gets-on (a .reader) t left mostPackets (from .ran) t′ (along .ours) left-bytes (from .promise) (alive (a .reader) more) (omega arith) (omega arith)
+        (omega (arith, length-drop (a .at) piece)) in
         record {
           ours =
-              subst (λ (r : Reader). Ours r t′) (sym (on .reader))
-              (step-ours (a .reader) t left (on .step) t′ (along .ours) (bytes-drop (a .at) piece bytes) (on .promise));
+              subst (λ (r : Reader). Ours r t′) (sym (from .reader))
+              (run-ours (a .reader) t left mostPackets (from .ran) t′ (along .ours) left-bytes (from .promise));
           state = sym read-on ∙ along .state;
-          room = λ _. omega (arith, g, on .at, along .room more);
+          room = λ _. omega (arith, g, from .at, along .room more);
         }
 
   -- where no byte is left, or the reader takes none
-  pub ends : (a : runs.Run) (t : List ℕ) (turns : ℕ) → a .at ≤ length piece → (takesMore (a .reader) ≡ true → length piece ≤ a .at) → Along a t turns
+  pub ends : (a : Reached) (t : List ℕ) (turns : ℕ) → a .at ≤ length piece → (takesMore (a .reader) ≡ true → length piece ≤ a .at) → Along a t turns
       → Fed r₀ t₀ piece (a .reader) t
   ends a t turns h f along =
       let none = nothing (a .reader) t (drop (a .at) piece) (λ e. let n : a .at ≡ length piece = omega (arith, f e) in rw n (drop-length piece)) in

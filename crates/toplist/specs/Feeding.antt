@@ -10,22 +10,22 @@ use Rattle.packet.specs.Stream.{reading}
 use Rattle.packet.specs.Session.{soupBinTCP}
 use Rattle.reader.specs.Deliver.{deliver}
 use Rattle.reader.specs.View.{stateOf}
-use Rattle.reader.specs.Calls.{Stepping}
+use Rattle.reader.specs.Running.{mostPackets, Running}
 use Rattle.reader.specs.declared.Reader.{Reader}
-use Rattle.reader.specs.declared.Stepped.{Stepped}
+use Rattle.reader.specs.declared.Ran.{Ran}
 use Rattle.demands.specs.Sound.{Ours}
-use Rattle.toplist.specs.declared.session.Run.{Run}
+use Rattle.toplist.specs.declared.session.Reached.{Reached}
 
 -- one that has neither refused nor ended
 abbrev pub takesMore : Reader → Bool
 takesMore r = eqb (r .refusal) 0 && not (r .ended)
 
--- one step of a run into the piece, with the bytes from where it stands
-pub record StepsOn (a : Run) (t piece : List ℕ) (b : Run) (t′ : List ℕ) : Type 0 where
-  pub step : Stepped
-  pub promise : Stepping (a .reader) t (drop (a .at) piece) step t′
-  pub reader : b .reader ≡ step .reader
-  pub at : b .at ≡ a .at + step .taken
+-- one run with the highest ceiling, given the bytes of the piece from where the reader stands in it
+pub record RunsFrom (a : Reached) (t piece : List ℕ) (b : Reached) (t′ : List ℕ) : Type 0 where
+  pub ran : Ran
+  pub promise : Running (a .reader) t (drop (a .at) piece) mostPackets ran t′
+  pub reader : b .reader ≡ ran .reader
+  pub at : b .at ≡ a .at + ran .taken
 
 -- THE PROMISE OF FEEDING: of a reader and a table that our own calls made, the reader and the table that are left are those of the reading of the whole
 -- piece, and as our own calls make them

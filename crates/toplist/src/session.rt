@@ -1,14 +1,15 @@
-// The session: read in pieces as they come, and stepped through to its end.
+// The session: read in pieces as they come, and run through to its end.
 use crate::progress;
 use crate::progress::Progress;
+use reader::MOST_PACKETS;
 use reader::Reader;
 ghost use mathlib.Core.Path.{_≡_};
 ghost use Prim.Native.Nat.{_≤_};
 ghost use lib.ListN.{length};
-ghost use Rattle.toplist.specs.Feeding.{takesMore, StepsOn, Feeds, Stays};
+ghost use Rattle.toplist.specs.Feeding.{takesMore, RunsFrom, Feeds, Stays};
 
 // A reader, and how far it is in the piece.
-pub struct Run {
+pub struct Reached {
     pub reader: Reader,
     pub at: usize,
 }
@@ -39,39 +40,39 @@ fn takes_more(reader: Reader) -> bool
     !reader.ended
 }
 
-// One step into the piece.
-fn step_on(run: Run, piece: &[u8], table: &mut [u8]) -> Run
-    requires { ⌜ run .at ≤ length (now piece) ⌝ }
-    ensures { λ r. ⌜ StepsOn run (now (table .entry)) (now (piece .entry)) r (now (table .exit)) ⌝ }
+// One run into the piece, with the highest ceiling.
+fn run_from(reached: Reached, piece: &[u8], table: &mut [u8]) -> Reached
+    requires { ⌜ reached .at ≤ length (now piece) ⌝ }
+    ensures { λ r. ⌜ RunsFrom reached (now (table .entry)) (now (piece .entry)) r (now (table .exit)) ⌝ }
 {
-    let given = run.reader;
-    let at = run.at;
-    let s = given.step(&piece[at..], table);
-    let reader = s.reader;
-    Run {
+    let given = reached.reader;
+    let at = reached.at;
+    let ran = given.run(&piece[at..], table, MOST_PACKETS);
+    let reader = ran.reader;
+    Reached {
         reader,
-        at: at + s.taken,
+        at: at + ran.taken,
     }
 }
 
-// All of a piece, or as much as is taken. Each step takes a byte at least, so the turns do not run out.
+// All of a piece, or as much as is taken. Each run takes a byte at least, so the turns do not run out.
 fn feed(reader: Reader, piece: &[u8], table: &mut [u8]) -> Reader
     ensures { λ r. ⌜ Feeds reader (now (table .entry)) (now (piece .entry)) r (now (table .exit)) ⌝ }
 {
-    let mut run = Run { reader, at: 0 };
+    let mut reached = Reached { reader, at: 0 };
     let mut turns = piece.len();
     while turns > 0 {
-        let before = run.reader;
+        let before = reached.reader;
         if !takes_more(before) {
             return before;
         }
-        if run.at == piece.len() {
+        if reached.at == piece.len() {
             return before;
         }
-        run = step_on(run, piece, table);
+        reached = run_from(reached, piece, table);
         turns -= 1;
     }
-    run.reader
+    reached.reader
 }
 
 // What comes next of the input.
@@ -132,7 +133,7 @@ fn goes_on(heard: Heard) -> bool {
     takes_more(heard.reader)
 }
 
-// Reads and steps to the end. A proved loop has to end, so it counts its turns down from a number that no run uses up.
+// Reads and runs to the end. A proved loop has to end, so it counts its turns down from a number that no input uses up.
 fn listen(fd: i32, reader: Reader, space: &mut [u8], table: &mut [u8]) -> Heard
     ensures { λ h. ⌜ Stays reader (now (table .entry)) (h .reader) (now (table .exit)) ⌝ }
 {

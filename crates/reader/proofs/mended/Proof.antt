@@ -2,18 +2,23 @@
 -- Assumes nothing.
 use borrow.Author.Needs.{needs}
 use native.Mathlib.Omega.{arith}
-use mathlib.Core.Path.{_≡_, sym}
+use mathlib.Core.Path.{_≡_, sym, ap, _∙_}
 use Prim.Native.Nat.{_+_, _≤_}
 use lib.ListN.{length}
 use lib.Seq.{length-take-le}
 use denote.Ref.{now}
-use Rattle.field.specs.Bytes.{part}
-use Rattle.field.proofs.Numbers.{Lent}
+use Rattle.field.specs.Bytes.{Bytes, part}
+use Rattle.field.proofs.Numbers.{Lent, lent-bytes}
 use Rattle.packet.specs.Frame.{heldSize}
+use Rattle.packet.specs.Stream as stream
+use Rattle.packet.specs.Session.{Event}
 use Rattle.packet.proofs.Mend.{room-fits, room-within}
 use Rattle.handle.specs.Handle.{handleSize}
 use Rattle.handle.proofs.Rounds.{handle-length}
-use Rattle.reader.proofs.Steps.{unheld-ready, unheld-rows, mended-past, mended-whole}
+use Rattle.reader.specs.Deliver.{Said}
+use Rattle.reader.specs.Handles.{toldMemory}
+use Rattle.reader.proofs.Telling.{told-there}
+use Rattle.reader.proofs.Steps.{mended-answer, mended-bytes, unheld-ready, unheld-rows, mended-past, mended-whole}
 use Rattle.reader.proofs.Delivered.{own-long}
 use Rattle.reader.proofs.mended.Statement.{statement}
 use Rattle.reader.proofs.mended.Tie as tie
@@ -24,8 +29,14 @@ size s = handle-length (now (s .args .handle)) (s .pre .0 .going .handle-is)
 lent : (c : tie.After-slice-known) → Lent (now (c .before .args .handle))
 lent c = search (needs, c .slice-known)
 
+put-bytes : (c : tie.After-slice-known4) → Bytes (c .before .before .put-used .last .1 .0)
+put-bytes c = lent-bytes (c .before .before .put-used .last .1 .0) (search (needs, c .slice-known4))
+
+piece-bytes : (c : tie.After-shared-slice-known) → Bytes (now (c .before .before .before .args .piece))
+piece-bytes c = lent-bytes (now (c .before .before .before .args .piece)) (search (needs, c .shared-slice-known))
+
 start-fits : (s : tie.Start) → s .args .used ≤ heldSize
-start-fits s = rw (s .pre .1 .1) (s .pre .0 .start)
+start-fits s = rw (s .pre .1 .1 .0) (s .pre .0 .start)
 
 room-there : (c : tie.After-room) → (let s = c .before .before .before .before .before in s .args .used + c .room .result ≤ heldSize)
 room-there c = let s = c .before .before .before .before .before in room-fits (s .args .used) (length (now (s .args .piece))) (start-fits s) (c .room .ensures)
@@ -50,42 +61,71 @@ array-share-prefix-all : tie.Need-array-share-prefix-all
 array-share-prefix-all c =
     let at-joined = c .before .before .before .before .before .before in
     let long : length (at-joined .joined .result) ≡ heldSize = search needs in
-    omega (arith, room-there (c .before .before .before .before .before .before .before .before .before))
+    omega (arith, room-there (at-joined .before .before .before))
 
 slice-aggregate-straight : tie.Need-slice-aggregate-straight
 slice-aggregate-straight c =
     let at-joined = c .before .before .before .before .before .before .before in
     let long : length (at-joined .joined .result) ≡ heldSize = search needs in
-    sym (length-take-le _ _ (omega (arith, room-there (c .before .before .before .before .before .before .before .before .before .before))))
+    sym (length-take-le _ _ (omega (arith, room-there (at-joined .before .before .before))))
 
 straight-requires : tie.Need-straight-requires
 straight-requires c κs =
-    let at-put = c .before .before .before .before .before .before in
+    let at-put = c .before .before .before .before .before in
     let first = at-put .before .before .before .before .before .before .before .before .before in
     let start = first .before in
-    (unheld-ready (now (start .args .handle)) (now (start .args .table)) (now (start .args .event)) (start .pre .0) (lent first) (at-put .put-used .ensures), unheld-rows (now (start .args .handle)) (now (start .args .table)) (now (start .args .event)) (start .pre .0) (lent first) (at-put .put-used .ensures) (start .pre .1 .0))
+    (unheld-ready (now (start .args .handle)) (now (start .args .table)) (start .pre .0) (lent first) (at-put .put-used .ensures), unheld-rows (now (start .args .handle)) (now (start .args .table)) (start .pre .0) (lent first) (at-put .put-used .ensures) (start .pre .1 .0))
+
+array-share-prefix-all-2 : tie.Need-array-share-prefix-all-2
+array-share-prefix-all-2 c =
+    let at-joined = c .before .before .before .before .before .before .before .before .before .before .before .before .before in
+    let long : length (at-joined .joined .result) ≡ heldSize = search needs in
+    omega (arith, room-there (at-joined .before .before .before))
+
+slice-aggregate-tell : tie.Need-slice-aggregate-tell
+slice-aggregate-tell c =
+    let at-joined = c .before .before .before .before .before .before .before .before .before .before .before .before .before .before in
+    let long : length (at-joined .joined .result) ≡ heldSize = search needs in
+    sym (length-take-le _ _ (omega (arith, room-there (at-joined .before .before .before))))
+
+tell-requires : tie.Need-tell-requires
+unfolding part
+tell-requires c κs =
+    let at-straight = c .before .before .before .before .before .before .before in
+    let known = at-straight .before .before .before .before in
+    let at-put = known .before .before in
+    let at-joined = at-put .before .before in
+    let at-room = at-joined .before .before .before in
+    let first = at-room .before .before .before .before in
+    let start = first .before in
+    told-there _ _ _ (now (start .args .event)) (unheld-ready (now (start .args .handle)) (now (start .args .table)) (start .pre .0) (lent first) (at-put .put-used .ensures)) (put-bytes known) (mended-bytes (now (start .args .handle)) (now (start .args .table)) (start .pre .0) (lent first) (at-put .put-used .ensures) (now (start .args .piece)) (start .args .used) (at-room .room .result) (at-joined .joined .result) (start .pre .1 .1 .0) (at-room .room .ensures) (at-joined .joined .ensures) (piece-bytes (at-room .before .before))) (start .pre .1 .1 .1) (search (needs, size start)) (at-straight .straight .ensures) .asked
 
 sub-result : tie.Need-sub-result
 unfolding part
 sub-result c =
-    let at-put = c .before .before .before .before .before .before .before .before .before .before .before .before .before in
+    let at-straight = c .before .before .before .before .before .before .before .before .before .before in
+    let known = at-straight .before .before .before .before in
+    let at-put = known .before .before in
     let at-joined = at-put .before .before in
     let at-room = at-joined .before .before .before in
     let first = at-room .before .before .before .before in
     let start = first .before in
-    mended-past (now (start .args .handle)) (now (start .args .table)) (now (start .args .event)) (start .pre .0) (lent first) (at-put .put-used .ensures) (now (start .args .piece)) (start .args .used) (at-room .room .result) (at-joined .joined .result) (start .pre .1 .1) (at-room .room .ensures) (at-joined .joined .ensures) (c .before .before .before .before .before .before .straight .ensures)
+    mended-past (now (start .args .handle)) (now (start .args .table)) (start .pre .0) (lent first) (at-put .put-used .ensures) (now (start .args .piece)) (start .args .used) (at-room .room .result) (at-joined .joined .result) (start .pre .1 .1 .0) (at-room .room .ensures) (at-joined .joined .ensures) (at-straight .straight .ensures)
 
 returns : tie.Need-returns
 unfolding part
 returns c =
-    let at-put = c .before .before .before .before .before .before .before .before .before .before .before .before .before in
+    let at-straight = c .before .before .before .before .before .before .before .before .before .before in
+    let known = at-straight .before .before .before .before in
+    let at-put = known .before .before in
     let at-joined = at-put .before .before in
     let at-room = at-joined .before .before .before in
     let first = at-room .before .before .before .before in
     let start = first .before in
-    mended-whole (now (start .args .handle)) (now (start .args .table)) (now (start .args .event)) (start .pre .0) (lent first) (at-put .put-used .ensures) (now (start .args .piece)) (start .args .used) (at-room .room .result) (at-joined .joined .result) (start .pre .1 .1) (at-room .room .ensures) (at-joined .joined .ensures) (c .before .before .before .before .before .before .straight .ensures)
+    let t = told-there _ _ _ (now (start .args .event)) (unheld-ready (now (start .args .handle)) (now (start .args .table)) (start .pre .0) (lent first) (at-put .put-used .ensures)) (put-bytes known) (mended-bytes (now (start .args .handle)) (now (start .args .table)) (start .pre .0) (lent first) (at-put .put-used .ensures) (now (start .args .piece)) (start .args .used) (at-room .room .result) (at-joined .joined .result) (start .pre .1 .1 .0) (at-room .room .ensures) (at-joined .joined .ensures) (piece-bytes (at-room .before .before))) (start .pre .1 .1 .1) (search (needs, size start)) (at-straight .straight .ensures) in (
+      mended-whole (now (start .args .handle)) (now (start .args .table)) (start .pre .0) (lent first) (at-put .put-used .ensures) (now (start .args .piece)) (start .args .used) (at-room .room .result) (at-joined .joined .result) (start .pre .1 .1 .0) (at-room .room .ensures) (at-joined .joined .ensures) (at-straight .straight .ensures),
+      c .before .before .tell .ensures ∙ t .is ∙ ap (λ (x : stream.Answer (Event Said)). toldMemory x (now (start .args .event))) (mended-answer (now (start .args .handle)) (now (start .args .table)) (start .pre .0) (lent first) (at-put .put-used .ensures) (now (start .args .piece)) (start .args .used) (at-room .room .result) (at-joined .joined .result) (start .pre .1 .1 .0) (at-room .room .ensures) (at-joined .joined .ensures)),
+    )
 
 pub mended-spec : {M : Type 1} → statement M
-mended-spec =
-    tie.close
-    (tie.spec (λ c κs. search needs) (λ c. search needs) (λ c. search needs) part-joined-end joined-requires add-end put-used-requires array-share-prefix-all slice-aggregate-straight straight-requires (λ c. search needs) (λ c. search needs) sub-result (λ c. search needs) (λ c. search needs) (λ c. search needs) returns)
+mended-spec = tie.close (tie.spec (λ c κs. search needs) (λ c. search needs) (λ c. search needs) part-joined-end joined-requires add-end put-used-requires array-share-prefix-all slice-aggregate-straight straight-requires array-share-prefix-all-2 slice-aggregate-tell tell-requires (λ c. search needs) (λ c. search needs) sub-result (λ c. search needs) (λ c. search needs) (λ c. search needs) returns)

@@ -1,19 +1,26 @@
 -- `reader::moved` meets its contract.
 -- Assumes nothing.
 use borrow.Author.Needs.{needs}
-use mathlib.Core.Path.{_≡_}
+use borrow.Author.Tests.{eqb-true}
+use mathlib.Core.Path.{_≡_, sym, ap, _∙_}
 use mathlib.Core.Bool.{true}
 use lib.ListN.{length}
 use denote.Ref.{now}
-use Rattle.field.proofs.Numbers.{Lent}
+use Rattle.field.specs.Bytes.{Bytes}
+use Rattle.field.proofs.Numbers.{Lent, lent-bytes}
+use Rattle.packet.specs.Stream as stream
+use Rattle.packet.specs.Session.{Event}
 use Rattle.handle.specs.Handle.{handleSize, isHandle}
 use Rattle.handle.proofs.Rounds.{handle-length}
-use Rattle.reader.proofs.Steps.{within-handle, moved-refused, moved-ended, moved-ready, moved-holding, moved-live}
+use Rattle.reader.specs.Deliver.{Said}
+use Rattle.reader.specs.Handles.{toldMemory}
+use Rattle.reader.proofs.Steps.{within-handle, turned-stops, untold, turned-ready, turned-holding, turned-live, answers, steps-told}
+use Rattle.reader.proofs.Telling.{told-there}
 use Rattle.reader.proofs.moved.Statement.{statement}
 use Rattle.reader.proofs.moved.Tie as tie
 
 is : (s : tie.Start) → isHandle (now (s .args .handle)) ≡ true
-is s = within-handle (now (s .args .handle)) (now (s .args .table)) (s .pre .0 .within)
+is s = within-handle (now (s .args .handle)) (now (s .args .table)) (s .pre .0)
 
 size : (s : tie.Start) → length (now (s .args .handle)) ≡ handleSize
 size s = handle-length (now (s .args .handle)) (is s)
@@ -21,78 +28,80 @@ size s = handle-length (now (s .args .handle)) (is s)
 lent : (c : tie.After-slice-known) → Lent (now (c .before .args .handle))
 lent c = search (needs, c .slice-known)
 
-refusal-requires : tie.Need-refusal-requires
-refusal-requires c κs = search (needs, size (c .before .before .before .before .before))
+piece-bytes : (c : tie.After-shared-slice-known) → Bytes (now (c .before .before .before .args .piece))
+piece-bytes c = lent-bytes (now (c .before .before .before .args .piece)) (search (needs, c .shared-slice-known))
+
+goes-on-requires : tie.Need-goes-on-requires
+goes-on-requires c κs = search (needs, size (c .before .before .before .before .before))
+
+why-stopped-requires : tie.Need-why-stopped-requires
+why-stopped-requires c κs = search (needs, size (c .before .before .before .before .before .before .before .before))
 
 returns : tie.Need-returns
 returns c =
-    let at-refusal = c .before in
-    let first = at-refusal .before .before .before .before .before in
+    let at-goes = c .before .before .before in
+    let first = at-goes .before .before .before .before .before in
     let start = first .before in
-    moved-refused (now (start .args .handle)) (now (start .args .table)) (now (start .args .piece)) (now (start .args .event)) (start .pre .0 .long) (is start) (lent first) (start .pre .0 .within) (at-refusal .refusal .ensures) (c .if1 .taken)
-
-ended-requires : tie.Need-ended-requires
-ended-requires c κs = search (needs, size (c .before .before .before .before .before .before .before .before))
-
-returns-2 : tie.Need-returns-2
-returns-2 c =
-    let at-refusal = c .before .before .before .before in
-    let first = at-refusal .before .before .before .before .before in
-    let start = first .before in
-    moved-ended (now (start .args .handle)) (now (start .args .table)) (now (start .args .piece)) (now (start .args .event)) (start .pre .0 .long) (is start) (lent first) (start .pre .0 .within) (at-refusal .refusal .ensures) (c .before .before .before .if1 .left) (c .before .ended .ensures) (c .if2 .taken)
+    steps-told (now (start .args .handle)) (now (start .args .table)) (now (start .args .piece)) (now (start .args .event)) (start .pre .1 .0) (is start) (turned-stops (now (start .args .handle)) (now (start .args .table)) (now (start .args .piece)) (lent first) (start .pre .0) (at-goes .goes-on .ensures) (c .before .before .if1 .taken) (c .why-stopped .ensures)) (untold (now (start .args .handle)) (now (start .args .table)) (now (start .args .piece)) (lent first) (start .pre .0) (at-goes .goes-on .ensures) (c .before .before .if1 .taken) (c .why-stopped .ensures) (now (start .args .event)))
 
 used-requires : tie.Need-used-requires
-used-requires c κs = search (needs, size (c .before .before .before .before .before .before .before .before .before .before .before))
+used-requires c κs = search (needs, size (c .before .before .before .before .before .before .before .before))
 
 straight-requires : tie.Need-straight-requires
 straight-requires c κs =
-    let at-if3 = c .before .before .before in
-    let at-used = at-if3 .before in
-    let at-if2 = at-used .before .before in
-    let at-ended = at-if2 .before in
-    let at-if1 = at-ended .before .before in
-    let at-refusal = at-if1 .before in
-    let first = at-refusal .before .before .before .before .before in
+    let at-goes = c .before .before .before .before .before .before in
+    let first = at-goes .before .before .before .before .before in
     let start = first .before in
-    (moved-ready (now (start .args .handle)) (now (start .args .table)) (now (start .args .piece)) (now (start .args .event)) (start .pre .0 .long) (is start) (lent first) (start .pre .0 .within) (at-refusal .refusal .ensures) (at-if1 .if1 .left) (at-ended .ended .ensures) (at-if2 .if2 .left) (at-used .used .ensures) (at-if3 .if3 .taken), start .pre .1)
+    (turned-ready (now (start .args .handle)) (now (start .args .table)) (now (start .args .piece)) (lent first) (start .pre .0) (at-goes .goes-on .ensures) (c .before .before .before .before .before .if1 .left) (c .before .before .before .used .ensures) (c .before .before .if2 .taken), start .pre .1 .1)
+
+tell-message-requires : tie.Need-tell-message-requires
+tell-message-requires c κs =
+    let at-goes = c .before .before .before .before .before .before .before .before .before .before .before .before .before .before in
+    let first = at-goes .before .before .before .before .before in
+    let start = first .before in
+    (eqb-true _ 768 (sym (c .before .before .is-message .ensures) ∙ c .before .if3 .taken), (_, told-there (now (start .args .handle)) (now (start .args .table)) (now (start .args .piece)) (now (start .args .event)) (turned-ready (now (start .args .handle)) (now (start .args .table)) (now (start .args .piece)) (lent first) (start .pre .0) (at-goes .goes-on .ensures) (c .before .before .before .before .before .before .before .before .before .before .before .before .before .if1 .left) (c .before .before .before .before .before .before .before .before .before .before .before .used .ensures) (c .before .before .before .before .before .before .before .before .before .before .if2 .taken)) (lent-bytes (now (start .args .handle)) (lent first)) (piece-bytes (at-goes .before .before .before)) (start .pre .1 .0) (search (needs, size start)) (c .before .before .before .before .before .before .before .straight .ensures) .asked))
+
+returns-2 : tie.Need-returns-2
+returns-2 c =
+    let at-goes = c .before .before .before .before .before .before .before .before .before .before .before .before .before .before .before .before .before in
+    let first = at-goes .before .before .before .before .before in
+    let start = first .before in
+    let size-after : length (c .before .before .before .before .before .before .before .before .before .before .straight .last .1 .0) ≡ handleSize = search (needs, size start, c .before .before .before .before .before .before .before .before .before .handle) in
+    let t = told-there (now (start .args .handle)) (now (start .args .table)) (now (start .args .piece)) (now (start .args .event)) (turned-ready (now (start .args .handle)) (now (start .args .table)) (now (start .args .piece)) (lent first) (start .pre .0) (at-goes .goes-on .ensures) (c .before .before .before .before .before .before .before .before .before .before .before .before .before .before .before .before .if1 .left) (c .before .before .before .before .before .before .before .before .before .before .before .before .before .before .used .ensures) (c .before .before .before .before .before .before .before .before .before .before .before .before .before .if2 .taken)) (lent-bytes (now (start .args .handle)) (lent first)) (piece-bytes (at-goes .before .before .before)) (start .pre .1 .0) size-after (c .before .before .before .before .before .before .before .before .before .before .straight .ensures) in
+    steps-told (now (start .args .handle)) (now (start .args .table)) (now (start .args .piece)) (now (start .args .event)) (start .pre .1 .0) (is start) (turned-live (now (start .args .handle)) (now (start .args .table)) (now (start .args .piece)) (lent first) (start .pre .0) (at-goes .goes-on .ensures) (c .before .before .before .before .before .before .before .before .before .before .before .before .before .before .before .before .if1 .left) (c .before .before .before .before .before .before .before .before .before .before .straight .ensures))
+    (c .before .before .tell-message .ensures _ ∙ t .is ∙ ap (λ (x : stream.Answer (Event Said)). toldMemory x (now (start .args .event))) (answers (now (start .args .handle)) (now (start .args .table)) (now (start .args .piece)) (lent first) (start .pre .0) (at-goes .goes-on .ensures) (c .before .before .before .before .before .before .before .before .before .before .before .before .before .before .before .before .if1 .left)))
+
+tell-requires : tie.Need-tell-requires
+tell-requires c κs =
+    let at-goes = c .before .before .before .before .before .before .before .before .before .before .before .before .before .before .before in
+    let first = at-goes .before .before .before .before .before in
+    let start = first .before in
+    told-there (now (start .args .handle)) (now (start .args .table)) (now (start .args .piece)) (now (start .args .event)) (turned-ready (now (start .args .handle)) (now (start .args .table)) (now (start .args .piece)) (lent first) (start .pre .0) (at-goes .goes-on .ensures) (c .before .before .before .before .before .before .before .before .before .before .before .before .before .before .if1 .left) (c .before .before .before .before .before .before .before .before .before .before .before .before .used .ensures) (c .before .before .before .before .before .before .before .before .before .before .before .if2 .taken)) (lent-bytes (now (start .args .handle)) (lent first)) (piece-bytes (at-goes .before .before .before)) (start .pre .1 .0) (search (needs, size start)) (c .before .before .before .before .before .before .before .before .straight .ensures) .asked
 
 returns-3 : tie.Need-returns-3
 returns-3 c =
-    let at-if3 = c .before .before .before .before .before .before .before .before .before .before in
-    let at-used = at-if3 .before in
-    let at-if2 = at-used .before .before in
-    let at-ended = at-if2 .before in
-    let at-if1 = at-ended .before .before in
-    let at-refusal = at-if1 .before in
-    let first = at-refusal .before .before .before .before .before in
+    let at-goes = c .before .before .before .before .before .before .before .before .before .before .before .before .before .before .before .before .before .before in
+    let first = at-goes .before .before .before .before .before in
     let start = first .before in
-    moved-live (now (start .args .handle)) (now (start .args .table)) (now (start .args .piece)) (now (start .args .event)) (start .pre .0 .long) (is start) (lent first) (start .pre .0 .within) (at-refusal .refusal .ensures) (at-if1 .if1 .left) (at-ended .ended .ensures) (at-if2 .if2 .left) (c .before .before .before .before .before .before .straight .ensures)
+    let size-after : length (c .before .before .before .before .before .before .before .before .before .before .before .straight .last .1 .0) ≡ handleSize = search (needs, size start, c .before .before .before .before .before .before .before .before .before .before .handle) in
+    let t = told-there (now (start .args .handle)) (now (start .args .table)) (now (start .args .piece)) (now (start .args .event)) (turned-ready (now (start .args .handle)) (now (start .args .table)) (now (start .args .piece)) (lent first) (start .pre .0) (at-goes .goes-on .ensures) (c .before .before .before .before .before .before .before .before .before .before .before .before .before .before .before .before .before .if1 .left) (c .before .before .before .before .before .before .before .before .before .before .before .before .before .before .before .used .ensures) (c .before .before .before .before .before .before .before .before .before .before .before .before .before .before .if2 .taken)) (lent-bytes (now (start .args .handle)) (lent first)) (piece-bytes (at-goes .before .before .before)) (start .pre .1 .0) size-after (c .before .before .before .before .before .before .before .before .before .before .before .straight .ensures) in
+    steps-told (now (start .args .handle)) (now (start .args .table)) (now (start .args .piece)) (now (start .args .event)) (start .pre .1 .0) (is start) (turned-live (now (start .args .handle)) (now (start .args .table)) (now (start .args .piece)) (lent first) (start .pre .0) (at-goes .goes-on .ensures) (c .before .before .before .before .before .before .before .before .before .before .before .before .before .before .before .before .before .if1 .left) (c .before .before .before .before .before .before .before .before .before .before .before .straight .ensures))
+    (c .before .before .tell .ensures ∙ t .is ∙ ap (λ (x : stream.Answer (Event Said)). toldMemory x (now (start .args .event))) (answers (now (start .args .handle)) (now (start .args .table)) (now (start .args .piece)) (lent first) (start .pre .0) (at-goes .goes-on .ensures) (c .before .before .before .before .before .before .before .before .before .before .before .before .before .before .before .before .before .if1 .left)))
 
 mended-requires : tie.Need-mended-requires
 mended-requires c κs =
-    let at-if3 = c .before .before .before in
-    let at-used = at-if3 .before in
-    let at-if2 = at-used .before .before in
-    let at-ended = at-if2 .before in
-    let at-if1 = at-ended .before .before in
-    let at-refusal = at-if1 .before in
-    let first = at-refusal .before .before .before .before .before in
+    let at-goes = c .before .before .before .before .before .before .before in
+    let first = at-goes .before .before .before .before .before in
     let start = first .before in
-    (moved-holding (now (start .args .handle)) (now (start .args .table)) (now (start .args .piece)) (now (start .args .event)) (start .pre .0 .long) (is start) (lent first) (start .pre .0 .within) (at-refusal .refusal .ensures) (at-if1 .if1 .left) (at-ended .ended .ensures) (at-if2 .if2 .left), (start .pre .1, at-used .used .ensures))
+    (turned-holding (now (start .args .handle)) (now (start .args .table)) (now (start .args .piece)) (lent first) (start .pre .0) (at-goes .goes-on .ensures) (c .before .before .before .before .before .before .if1 .left), (start .pre .1 .1, (c .before .before .before .before .used .ensures, start .pre .1 .0)))
 
 returns-4 : tie.Need-returns-4
 returns-4 c =
-    let at-if3 = c .before .before .before .before .before .before .before .before .before .before in
-    let at-used = at-if3 .before in
-    let at-if2 = at-used .before .before in
-    let at-ended = at-if2 .before in
-    let at-if1 = at-ended .before .before in
-    let at-refusal = at-if1 .before in
-    let first = at-refusal .before .before .before .before .before in
+    let at-goes = c .before .before .before .before .before .before .before .before .before .before .before .before .before .before in
+    let first = at-goes .before .before .before .before .before in
     let start = first .before in
-    moved-live (now (start .args .handle)) (now (start .args .table)) (now (start .args .piece)) (now (start .args .event)) (start .pre .0 .long) (is start) (lent first) (start .pre .0 .within) (at-refusal .refusal .ensures) (at-if1 .if1 .left) (at-ended .ended .ensures) (at-if2 .if2 .left) (c .before .before .before .before .before .before .mended .ensures)
+    steps-told (now (start .args .handle)) (now (start .args .table)) (now (start .args .piece)) (now (start .args .event)) (start .pre .1 .0) (is start) (turned-live (now (start .args .handle)) (now (start .args .table)) (now (start .args .piece)) (lent first) (start .pre .0) (at-goes .goes-on .ensures) (c .before .before .before .before .before .before .before .before .before .before .before .before .before .if1 .left) (c .before .before .before .before .before .before .mended .ensures .0))
+    (c .before .before .before .before .before .before .mended .ensures .1 ∙ ap (λ (x : stream.Answer (Event Said)). toldMemory x (now (start .args .event))) (answers (now (start .args .handle)) (now (start .args .table)) (now (start .args .piece)) (lent first) (start .pre .0) (at-goes .goes-on .ensures) (c .before .before .before .before .before .before .before .before .before .before .before .before .before .if1 .left)))
 
 pub moved-spec : {M : Type 1} → statement M
-moved-spec =
-    tie.close
-    (tie.spec refusal-requires (λ c. search needs) (λ c. search needs) (λ c. search needs) returns ended-requires (λ c. search needs) returns-2 used-requires straight-requires (λ c. search needs) (λ c. search needs) (λ c. search needs) returns-3 mended-requires (λ c. search needs) (λ c. search needs) (λ c. search needs) returns-4)
+moved-spec = tie.close (tie.spec goes-on-requires why-stopped-requires (λ c. search needs) returns used-requires straight-requires (λ c κs. search needs) tell-message-requires (λ c. search needs) (λ c. search needs) (λ c. search needs) returns-2 tell-requires (λ c. search needs) (λ c. search needs) (λ c. search needs) returns-3 mended-requires (λ c. search needs) (λ c. search needs) (λ c. search needs) returns-4)

@@ -87,7 +87,7 @@ moved-requires : tie.Need-moved-requires
 moved-requires c κs =
     let at-keep = c .before .before .before .before in
     let at-rows = at-keep .before .before .before .before .before .before .before .before .before .before in
-    (record { within = not-not-call _ _ (limits at-keep) (c .before .before .before .if3 .left); long = at-rows .before .before .if2 .left }, at-rows .rows .ensures)
+    (not-not-call _ _ (limits at-keep) (c .before .before .before .if3 .left), (at-rows .before .before .if2 .left, at-rows .rows .ensures))
 
 returns-4 : tie.Need-returns-4
 returns-4 c =

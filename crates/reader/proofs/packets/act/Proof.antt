@@ -14,44 +14,44 @@ size : (s : tie.Start) → length (now (s .args .handle)) ≡ handleSize
 size s = handle-length (now (s .args .handle)) (s .pre .0 .going .handle-is)
 
 next-requires : tie.Need-next-requires
-next-requires c κs = search (needs, size (c .before .before .before .before .before))
+next-requires c κs = search (needs, size (c .before .before .before .before))
 
 logged-requires : tie.Need-logged-requires
-logged-requires c κs = search (needs, size (c .before .before .before .before .before .before .before))
+logged-requires c κs = search (needs, size (c .before .before .before .before .before .before))
 
 message-requires : tie.Need-message-requires
 message-requires c κs =
-    let known = c .before .before .before .before in
-    let at-logged = known .before in
-    let at-next = at-logged .before .before in
-    let start = at-next .before .before .before .before .before .before in
-    (start .pre .0, (start .pre .1, (at-next .next .ensures, act-counts (now (start .args .handle)) (now (start .args .table)) (now (start .args .event)) (start .pre .0) (start .args .letter) (now (start .args .body)) (at-next .next .ensures) (at-logged .logged .ensures) (known .is-message .ensures) (c .before .before .before .if1 .taken))))
-
-returns : tie.Need-returns
-returns c =
-    let known = c .before .before .before .before .before .before .before .before .before .before .before in
-    let at-logged = known .before in
-    let at-next = at-logged .before .before in
-    let start = at-next .before .before .before .before .before .before in
-    (act-message (now (start .args .handle)) (now (start .args .table)) (now (start .args .event)) (start .pre .0) (start .args .letter) (now (start .args .body)) (at-next .next .ensures) (at-logged .logged .ensures) (known .is-message .ensures) (c .before .before .before .before .before .before .before .before .before .before .if1 .taken) (c .before .before .before .before .before .before .message .ensures .0), c .before .before .before .before .before .before .message .ensures .1)
-
-other-requires : tie.Need-other-requires
-other-requires c κs =
     let known = c .before .before .before in
     let at-logged = known .before in
     let at-next = at-logged .before .before in
-    let start = at-next .before .before .before .before .before .before in
-    ((now (start .args .table), start .pre .0), act-other (now (start .args .handle)) (now (start .args .table)) (now (start .args .event)) (start .pre .0) (start .args .letter) (now (start .args .body)) (at-next .next .ensures) (at-logged .logged .ensures) (known .is-message .ensures) (c .before .before .if1 .left))
+    let start = at-next .before .before .before .before .before in
+    (start .pre .0, (start .pre .1, (at-next .next .ensures, act-counts (now (start .args .handle)) (now (start .args .table)) (start .pre .0) (start .args .letter) (now (start .args .body)) (at-next .next .ensures) (at-logged .logged .ensures) (known .is-message .ensures) (c .before .before .if1 .taken))))
 
-returns-2 : tie.Need-returns-2
-returns-2 c =
+returns : tie.Need-returns
+returns c =
     let known = c .before .before .before .before .before .before .before .before in
     let at-logged = known .before in
     let at-next = at-logged .before .before in
-    let start = at-next .before .before .before .before .before .before in
-    (c .before .before .before .before .other .ensures .0 (now (start .args .table)), c .before .before .before .before .other .ensures .1)
+    let start = at-next .before .before .before .before .before in
+    (act-message (now (start .args .handle)) (now (start .args .table)) (start .pre .0) (start .args .letter) (now (start .args .body)) (at-next .next .ensures) (at-logged .logged .ensures) (known .is-message .ensures) (c .before .before .before .before .before .before .before .if1 .taken) (c .before .before .before .before .message .ensures .0), c .before .before .before .before .message .ensures .1)
+
+other-requires : tie.Need-other-requires
+other-requires c κs =
+    let known = c .before .before in
+    let at-logged = known .before in
+    let at-next = at-logged .before .before in
+    let start = at-next .before .before .before .before .before in
+    ((now (start .args .table), start .pre .0), act-other (now (start .args .handle)) (now (start .args .table)) (start .pre .0) (start .args .letter) (now (start .args .body)) (at-next .next .ensures) (at-logged .logged .ensures) (known .is-message .ensures) (c .before .if1 .left))
+
+returns-2 : tie.Need-returns-2
+returns-2 c =
+    let known = c .before .before .before .before .before in
+    let at-logged = known .before in
+    let at-next = at-logged .before .before in
+    let start = at-next .before .before .before .before .before in
+    (c .before .before .other .ensures .0 (now (start .args .table)), c .before .before .other .ensures .1)
 
 pub act-spec : {M : Type 1} → statement M
 act-spec =
     tie.close
-    (tie.spec next-requires logged-requires (λ c κs. search needs) message-requires (λ c. search needs) (λ c. search needs) (λ c. search needs) returns other-requires (λ c. search needs) (λ c. search needs) returns-2)
+    (tie.spec next-requires logged-requires (λ c κs. search needs) message-requires (λ c. search needs) (λ c. search needs) returns other-requires (λ c. search needs) returns-2)

@@ -62,9 +62,13 @@ returns-13 c = search named-at
 
 returns-14 : tie.Need-returns-14
 unfolding named namedIn
-returns-14 c = search (if-no, ne-eqb, needs) depth 30
+returns-14 c = search named-at
+
+returns-15 : tie.Need-returns-15
+unfolding named namedIn
+returns-15 c = search (if-no, ne-eqb, needs) depth 30
 
 pub named-spec : {M : Type 1} → statement M
 named-spec =
     tie.close
-    (tie.spec returns returns-2 returns-3 returns-4 returns-5 returns-6 returns-7 returns-8 returns-9 returns-10 returns-11 returns-12 returns-13 returns-14)
+    (tie.spec returns returns-2 returns-3 returns-4 returns-5 returns-6 returns-7 returns-8 returns-9 returns-10 returns-11 returns-12 returns-13 returns-14 returns-15)

@@ -9,22 +9,22 @@ use lib.ListN.{length}
 use denote.Ref.{now}
 use Rattle.packet.proofs.Rules.{not-call, not-not-call, never}
 use Rattle.demands.specs.Sound.{Ours}
-use Rattle.toplist.proofs.Feeding.{Along, begins, goes-on, on-within, ends}
+use Rattle.toplist.proofs.Feeding.{Along, begins, goes-on, from-within, ends}
 use Rattle.toplist.proofs.session.feed.Statement.{statement}
 use Rattle.toplist.proofs.session.feed.Tie as tie
 
 abbrev Inv-loop : tie.InvT-loop
-Inv-loop piece table₀ run₀ turns₀ table run turns =
-    (run .at ≤ length piece) × (length table ≡ length table₀) × (Ours (run₀ .reader) table₀ → Along (run₀ .reader) table₀ piece run table turns)
+Inv-loop piece table₀ reached₀ turns₀ table reached turns =
+    (reached .at ≤ length piece) × (length table ≡ length table₀) × (Ours (reached₀ .reader) table₀ → Along (reached₀ .reader) table₀ piece reached table turns)
 
 abbrev μ-loop : tie.MeasureT-loop
-μ-loop piece table₀ run₀ turns₀ table run turns = turns
+μ-loop piece table₀ reached₀ turns₀ table reached turns = turns
 
 loop-holds : tie.Need-loop-holds Inv-loop μ-loop
 loop-holds c = (omega arith, refl, begins _ _ _)
 
-step-on-requires : tie.Need-step-on-requires Inv-loop μ-loop
-step-on-requires c κs = omega arith
+run-from-requires : tie.Need-run-from-requires Inv-loop μ-loop
+run-from-requires c κs = omega arith
 
 sub-turns : tie.Need-sub-turns Inv-loop μ-loop
 sub-turns c = omega arith
@@ -34,8 +34,8 @@ loop-less c = omega arith
 
 loop-again : tie.Need-loop-again Inv-loop μ-loop
 loop-again c =
-    let at-step = c .before .before in
-    let else2 = at-step .before .before in
+    let at-run = c .before .before in
+    let else2 = at-run .before .before in
     let else1 = else2 .before .before in
     let at-takes = else1 .before in
     let at-loop = at-takes .before .before .before in
@@ -44,11 +44,11 @@ loop-again c =
     let start = known .before in
     let inv = loop .inv in
     let more = not-not-call (at-takes .takes-more .result) _ (at-takes .takes-more .ensures) (else1 .if1 .left) in (
-      on-within (now (start .args .piece)) (loop .table) (loop .run) (at-step .step-on .result) _ (inv .0) (at-step .step-on .ensures),
+      from-within (now (start .args .piece)) (loop .table) (loop .reached) (at-run .run-from .result) _ (inv .0) (at-run .run-from .ensures),
       search needs,
       λ o.
-          goes-on (start .args .reader) (now (start .args .table)) (now (start .args .piece)) (loop .run) (at-step .step-on .result) (loop .table) _ (loop .turns)
-          (λ i. omega (arith, known .shared-slice-known .given i)) more (omega (arith, else2 .if2 .left)) (at-step .step-on .ensures) (omega arith) (inv .2 o),
+          goes-on (start .args .reader) (now (start .args .table)) (now (start .args .piece)) (loop .reached) (at-run .run-from .result) (loop .table) _ (loop .turns)
+          (λ i. omega (arith, known .shared-slice-known .given i)) more (omega (arith, else2 .if2 .left)) (at-run .run-from .ensures) (omega arith) (inv .2 o),
     )
 
 returns : tie.Need-returns Inv-loop μ-loop
@@ -58,7 +58,7 @@ returns c o =
     let start = at-loop .before .before .before in
     let loop = at-loop .loop in
     let none = not-call (at-takes .takes-more .result) _ (at-takes .takes-more .ensures) (c .if1 .taken) in
-    ends (start .args .reader) (now (start .args .table)) (now (start .args .piece)) (loop .run) (loop .table) (loop .turns) (loop .inv .0)
+    ends (start .args .reader) (now (start .args .table)) (now (start .args .piece)) (loop .reached) (loop .table) (loop .turns) (loop .inv .0)
     (λ e. absurd (never (sym none ∙ e))) (loop .inv .2 o)
 
 returns-2 : tie.Need-returns-2 Inv-loop μ-loop
@@ -66,7 +66,7 @@ returns-2 c o =
     let at-loop = c .before .before .before .before .before .before in
     let start = at-loop .before .before .before in
     let loop = at-loop .loop in
-    ends (start .args .reader) (now (start .args .table)) (now (start .args .piece)) (loop .run) (loop .table) (loop .turns) (loop .inv .0)
+    ends (start .args .reader) (now (start .args .table)) (now (start .args .piece)) (loop .reached) (loop .table) (loop .turns) (loop .inv .0)
     (λ e. omega (arith, c .if2 .taken)) (loop .inv .2 o)
 
 returns-3 : tie.Need-returns-3 Inv-loop μ-loop
@@ -75,10 +75,10 @@ returns-3 c o =
     let start = at-loop .before .before .before in
     let loop = at-loop .loop in
     let along = loop .inv .2 o in
-    ends (start .args .reader) (now (start .args .table)) (now (start .args .piece)) (loop .run) (loop .table) (loop .turns) (loop .inv .0)
+    ends (start .args .reader) (now (start .args .table)) (now (start .args .piece)) (loop .reached) (loop .table) (loop .turns) (loop .inv .0)
     (λ e. omega (arith, along .room e)) along
 
 pub feed-spec : {M : Type 1} → statement M
 feed-spec =
     tie.close
-    (tie.spec Inv-loop μ-loop loop-holds (λ c κs. search needs) (λ c. search needs) returns (λ c. search needs) returns-2 step-on-requires sub-turns loop-less loop-again (λ c. search needs) returns-3)
+    (tie.spec Inv-loop μ-loop loop-holds (λ c κs. search needs) (λ c. search needs) returns (λ c. search needs) returns-2 run-from-requires sub-turns loop-less loop-again (λ c. search needs) returns-3)
