@@ -174,6 +174,35 @@ static void read_plain_session(void)
     work.units = (size_t)reader.next - 1;
 }
 
+/* The same session by runs, with no events told. */
+static void run_library_session(void)
+{
+    size_t at = 0;
+    uint64_t a;
+    nelqubat_start(handle, sizeof handle, table, sizeof table);
+    do {
+        a = nelqubat_run(handle, sizeof handle, table, sizeof table, work.session.at + at,
+                         work.session.n - at, NELQUBAT_MAX_PACKETS);
+        at += nelqubat_run_taken(a);
+    } while (nelqubat_run_why(a) == NELQUBAT_CEILING);
+    need_whole("the library", at);
+    work.units = (size_t)nelqubat_handle_next(handle) - 1;
+}
+
+static void run_plain_session(void)
+{
+    struct plain_ran ran;
+    size_t at = 0;
+    plain_start(&reader, plain_table, sizeof plain_table);
+    do {
+        ran = plain_run(&reader, plain_table, sizeof plain_table, work.session.at + at,
+                        work.session.n - at, PLAIN_MAX_PACKETS);
+        at += ran.taken;
+    } while (ran.why == PLAIN_RAN_CEILING);
+    need_whole("the plain reader", at);
+    work.units = (size_t)reader.next - 1;
+}
+
 static void save_library(void)
 {
     static uint8_t out[NELQUBAT_IMAGE_BYTES];
@@ -262,6 +291,8 @@ static const struct task {
 } tasks[] = {
     {"quotes", "quotes, 256 instruments, whole piece", "messages", make_quotes,
      read_library_session, read_plain_session},
+    {"run", "quotes, 256 instruments, whole piece, by runs of 1,000 packets", "messages", make_quotes,
+     run_library_session, run_plain_session},
     {"cut", "quotes, 256 instruments, pieces of 1,460 bytes", "messages", make_quotes_cut,
      read_library_session, read_plain_session},
     {"one", "quotes, one instrument, whole piece", "messages", make_quotes_one,

@@ -14,10 +14,10 @@
 
 enum { STACK = 1 << 14, PAINT = 0x5A, ROUNDS = 200 };
 
-enum call { NONE, START, STEP, SAVE, RESTORE, READ, WRITE, LINE, FIND, CALLS };
+enum call { NONE, START, STEP, RUN, SAVE, RESTORE, READ, WRITE, LINE, FIND, CALLS };
 
 static const char *const names[CALLS] = {
-    "nothing", "start", "step", "save", "restore", "read", "write", "line", "find"};
+    "nothing", "start", "step", "run", "save", "restore", "read", "write", "line", "find"};
 
 static uint8_t handle[NELQUBAT_HANDLE_BYTES], table[NELQUBAT_TABLE_BYTES];
 static uint8_t event[NELQUBAT_RECORD_BYTES], record[NELQUBAT_RECORD_BYTES];
@@ -25,12 +25,13 @@ static uint8_t image[NELQUBAT_IMAGE_BYTES + NELQUBAT_BLOCK_BYTES];
 static uint8_t stack[STACK];
 static size_t most[CALLS];
 
-/* The call to make, its input, and its answer. */
+/* The call to make, its input, a run's ceiling, and the answer. */
 static struct {
     enum call call;
     const uint8_t *input;
     size_t n;
-    uint32_t answer;
+    uint32_t ceiling;
+    uint64_t answer;
 } work;
 
 static void make_call(void)
@@ -45,6 +46,9 @@ static void make_call(void)
         break;
     case STEP:
         work.answer = nelqubat_step(handle, sizeof handle, table, sizeof table, in, n, event, sizeof event);
+        break;
+    case RUN:
+        work.answer = nelqubat_run(handle, sizeof handle, table, sizeof table, in, n, work.ceiling);
         break;
     case SAVE:
         work.answer = nelqubat_save(handle, sizeof handle, table, sizeof table, image, NELQUBAT_IMAGE_BYTES);
@@ -69,7 +73,7 @@ static void make_call(void)
 
 /* Makes the call on the painted stack; what is touched of it counts from its
  * lowest byte that changed. */
-static uint32_t measure(enum call call, const uint8_t *input, size_t n)
+static uint64_t measure(enum call call, const uint8_t *input, size_t n)
 {
     static ucontext_t here, there;
     size_t left = 0;
@@ -90,12 +94,35 @@ static uint32_t measure(enum call call, const uint8_t *input, size_t n)
     return work.answer;
 }
 
+static void measure_steps(struct dice *d, const struct bytes *s)
+{
+    uint32_t answer;
+    measure(START, NULL, 0);
+    for (size_t at = 0; at < s->n; at += nelqubat_taken(answer)) {
+        answer = (uint32_t)measure(STEP, s->at + at, 1 + make_piece_size(d, s->n - at - 1));
+        if (nelqubat_kind(answer) >= NELQUBAT_ENDED)
+            break;
+    }
+}
+
+/* Runs of a few packets, as many as there may be, or too many. */
+static void measure_runs(struct dice *d, const struct bytes *s)
+{
+    uint64_t answer;
+    measure(START, NULL, 0);
+    for (size_t at = 0; at < s->n; at += nelqubat_run_taken(answer)) {
+        work.ceiling = (uint32_t)(dice_chance(d, 80) ? dice_below(d, 9) : dice_between(d, 999, 1001));
+        answer = measure(RUN, s->at + at, 1 + make_piece_size(d, s->n - at - 1));
+        if (nelqubat_run_why(answer) == NELQUBAT_ENDED || nelqubat_handle_refusal(handle) != 0)
+            break;
+    }
+}
+
 static void measure_session(struct dice *d, bool damaged)
 {
     static uint8_t space[1 << 17];
     struct bytes s = {space, 0, sizeof space - DAMAGE_ROOM};
     struct session_plan plan = random_plan(d);
-    uint32_t answer;
     plan.first = 1;
     plan.packets %= 40;
     plan.instruments = 1 + plan.instruments % 16;
@@ -103,12 +130,8 @@ static void measure_session(struct dice *d, bool damaged)
     s.room = sizeof space;
     if (damaged)
         damage_session(d, (enum session_damage)dice_below(d, SESSION_DAMAGES), &s);
-    measure(START, NULL, 0);
-    for (size_t at = 0; at < s.n; at += nelqubat_taken(answer)) {
-        answer = measure(STEP, s.at + at, 1 + make_piece_size(d, s.n - at - 1));
-        if (nelqubat_kind(answer) >= NELQUBAT_ENDED)
-            break;
-    }
+    measure_runs(d, &s);
+    measure_steps(d, &s);
     measure(SAVE, NULL, 0);
     for (size_t k = 0; k < 4; k++) {
         measure(LINE, NULL, k);

@@ -11,6 +11,7 @@ struct calls {
     uint32_t (*start)(uint8_t *, size_t, uint8_t *, size_t);
     uint32_t (*step)(uint8_t *, size_t, uint8_t *, size_t, const uint8_t *, size_t,
                      uint8_t *, size_t);
+    uint64_t (*run)(uint8_t *, size_t, uint8_t *, size_t, const uint8_t *, size_t, uint32_t);
     uint32_t (*save)(const uint8_t *, size_t, const uint8_t *, size_t, uint8_t *, size_t);
     uint32_t (*restore)(uint8_t *, size_t, uint8_t *, size_t, const uint8_t *, size_t);
     uint32_t (*read)(const uint8_t *, size_t, uint8_t *, size_t);

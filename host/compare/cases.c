@@ -89,12 +89,30 @@ static size_t piece_size(struct dice *d, enum cut cut, size_t left)
     return n < left ? n : left;
 }
 
-static void add_pieces(struct dice *d, const uint8_t *bytes, size_t n, struct script *s)
+/* A run's ceiling: at an edge, low, or any; too high at times. */
+static uint32_t make_ceiling(struct dice *d)
+{
+    static const uint32_t edges[] = {0, 1, 2, 999, 1000, 1001, 65537, UINT32_C(1) << 31, UINT32_MAX};
+    if (dice_chance(d, 40))
+        return edges[dice_below(d, sizeof edges / sizeof *edges)];
+    return (uint32_t)dice_between(d, 1, dice_chance(d, 80) ? 9 : 1000);
+}
+
+/* A piece that is read by steps or, in most cases where runs are made, by them. */
+static struct call piece_call(struct dice *d, bool by_runs)
+{
+    struct call c = usual_call(by_runs && dice_chance(d, 80) ? CALL_TURNS : CALL_FEED);
+    if (c.op == CALL_TURNS)
+        c.k = make_ceiling(d);
+    return c;
+}
+
+static void add_pieces(struct dice *d, const uint8_t *bytes, size_t n, bool by_runs, struct script *s)
 {
     enum cut cut = pick_cut(d, n);
     while (n > 0) {
         size_t size = piece_size(d, cut, n);
-        struct call c = usual_call(CALL_FEED);
+        struct call c = piece_call(d, by_runs);
         if (dice_chance(d, 1) && dice_chance(d, 20))
             spoil_length(d, &c);
         script_add(s, c, bytes, size);
@@ -144,30 +162,57 @@ static void begin_session(struct dice *d, const struct session_plan *plan, struc
     s->thorough = dice_chance(d, 2);
 }
 
-void make_session_case(struct dice *d, bool damaged, struct script *s, struct tally *t)
+/* A session, whose bytes go where there is room. */
+static struct session_plan make_any_session(struct dice *d, bool damaged, struct bytes *session)
 {
-    static uint8_t space[INPUT_ROOM];
-    struct bytes session = {space, 0, sizeof space - DAMAGE_ROOM};
     struct session_plan plan = random_plan(d);
-    size_t resumed;
     if (damaged && dice_chance(d, 80)) {
         plan.packets %= 30;
         plan.instruments = 1 + plan.instruments % 8;
     }
-    make_session(d, &plan, &session);
-    session.room = sizeof space;
+    session->room -= DAMAGE_ROOM;
+    make_session(d, &plan, session);
+    session->room += DAMAGE_ROOM;
     for (bool again = damaged; again; again = dice_chance(d, 20)) {
         if (dice_chance(d, 15))
-            edge_session(d, &session);
+            edge_session(d, session);
         else
-            damage_session(d, (enum session_damage)dice_below(d, SESSION_DAMAGES), &session);
+            damage_session(d, (enum session_damage)dice_below(d, SESSION_DAMAGES), session);
     }
+    return plan;
+}
+
+/* Heartbeats in one piece, few or about as many as a run may finish, and behind
+ * them an end or a rejection; the ceiling lets them pass, or one more. */
+static void add_burst(struct dice *d, struct script *s)
+{
+    uint8_t burst[3 * 1100 + 4];
+    size_t count = dice_chance(d, 20) ? dice_between(d, 990, 1100) : dice_below(d, 4);
+    uint64_t ceiling = count + dice_below(d, 2);
+    struct call c = usual_call(CALL_TURNS);
+    for (size_t i = 0; i < count; i++)
+        memcpy(burst + 3 * i, "\0\1H", 3);
+    memcpy(burst + 3 * count, dice_chance(d, 50) ? "\0\1Z" : "\0\2JA", 4);
+    c.k = ceiling < NELQUBAT_MAX_PACKETS ? ceiling : NELQUBAT_MAX_PACKETS;
+    script_add(s, c, burst, 3 * count + 4);
+}
+
+static void add_session(struct dice *d, bool damaged, bool by_runs, struct script *s, struct tally *t)
+{
+    static uint8_t space[INPUT_ROOM];
+    struct bytes session = {space, 0, sizeof space};
+    struct session_plan plan = make_any_session(d, damaged, &session);
+    size_t resumed;
     begin_session(d, &plan, s);
+    if (by_runs && dice_chance(d, 10))
+        add_burst(d, s);
     resumed = dice_chance(d, 15) ? middle(d, &session) : session.n;
-    add_pieces(d, session.at, resumed, s);
+    add_pieces(d, session.at, resumed, by_runs, s);
     if (resumed < session.n)
         add_save(d, CALL_RESUME, s);
-    add_pieces(d, session.at + resumed, session.n - resumed, s);
+    add_pieces(d, session.at + resumed, session.n - resumed, by_runs, s);
+    if (by_runs && dice_chance(d, 20))
+        add_burst(d, s);
     if (dice_chance(d, 20))
         add_save(d, dice_chance(d, 50) ? CALL_SAVE : CALL_RESUME, s);
     if (dice_chance(d, 20))
@@ -176,6 +221,16 @@ void make_session_case(struct dice *d, bool damaged, struct script *s, struct ta
         add_session_finds(d, &session, s);
     t->sessions++;
     t->damaged += damaged;
+}
+
+void make_session_case(struct dice *d, bool damaged, struct script *s, struct tally *t)
+{
+    add_session(d, damaged, false, s, t);
+}
+
+void make_run_case(struct dice *d, bool damaged, struct script *s, struct tally *t)
+{
+    add_session(d, damaged, true, s, t);
 }
 
 /* Handles. */
@@ -256,13 +311,15 @@ static void add_repeated_id(struct dice *d, const struct plain_reader *r, struct
 
 static void add_handle_call(struct dice *d, const struct plain_reader *r, struct script *s)
 {
-    static const enum operation ops[] = {CALL_STEP, CALL_FEED, CALL_FEED, CALL_SAVE, CALL_LINE,
-                                         CALL_LINE, CALL_FIND, CALL_RESUME, CALL_START};
+    static const enum operation ops[] = {CALL_STEP, CALL_FEED, CALL_FEED, CALL_SAVE, CALL_LINE, CALL_LINE,
+                                         CALL_FIND, CALL_RESUME, CALL_START, CALL_RUN, CALL_RUN, CALL_TURNS};
     uint8_t piece[600];
     struct call c = usual_call(ops[dice_below(d, sizeof ops / sizeof *ops)]);
     size_t n = 0;
-    if (c.op == CALL_STEP || c.op == CALL_FEED)
+    if (c.op == CALL_STEP || c.op == CALL_FEED || c.op == CALL_RUN || c.op == CALL_TURNS)
         n = make_piece(d, r, s->table, piece, sizeof piece);
+    if (c.op == CALL_RUN || c.op == CALL_TURNS)
+        c.k = make_ceiling(d);
     if (c.op == CALL_LINE)
         c.k = dice_chance(d, 80) ? dice_below(d, (uint64_t)r->rows % 300 + 4) : dice_next(d);
     if (c.op == CALL_FIND)
@@ -309,7 +366,7 @@ void make_quote_case(struct dice *d, bool damaged, struct script *s, struct tall
     script_clear(s);
     make_quoted(d, damaged, &r, s->table, &quote);
     oracle_pack_handle(&r, s->handle);
-    add_pieces(d, quote.at, quote.n, s);
+    add_pieces(d, quote.at, quote.n, false, s);
     t->handles++;
     t->damaged += damaged;
 }

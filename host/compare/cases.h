@@ -14,6 +14,9 @@ struct tally {
  * and listed. */
 void make_session_case(struct dice *d, bool damaged, struct script *s, struct tally *t);
 
+/* The same, read by runs and steps in turn, and now and then by steps alone. */
+void make_run_case(struct dice *d, bool damaged, struct script *s, struct tally *t);
+
 /* Any handle and table, then calls of every function that takes them. */
 void make_handle_case(struct dice *d, bool damaged, struct script *s, struct tally *t);
 

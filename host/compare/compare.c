@@ -1,5 +1,5 @@
 /* Holds the library against the plain reader over random cases: sessions cut
- * at random, handles, images and records, true and damaged.
+ * at random, by steps and by runs, handles, images and records, true and damaged.
  *
  *   compare [SEED [ROUNDS]]    a round's seed is SEED plus its place
  *   compare --replay FILE      runs a case that was written on a difference
@@ -17,7 +17,7 @@
 #include <unistd.h>
 
 /* A round takes some hundredths of a second, even emulated. Within 300 rounds
- * the rarest answer comes some thirty times. */
+ * the rarest answer comes a dozen times. */
 enum { DEFAULT_SEED = 1, DEFAULT_ROUNDS = 3000, ROUND_SECONDS = 120, ROUNDS_FOR_ALL = 300 };
 
 static struct pair pair;
@@ -65,7 +65,7 @@ static bool run_cases(struct dice *d, case_maker *make, bool damaged, unsigned t
     return true;
 }
 
-/* One round: 36 damaged inputs and some four hundred packets. */
+/* One round: 40 damaged inputs and some eight hundred packets. */
 static bool run_round(uint64_t seed)
 {
     struct dice d = dice_seeded(seed);
@@ -80,7 +80,9 @@ static bool run_round(uint64_t seed)
            run_cases(&d, make_record_case, false, 1) &&
            run_cases(&d, make_record_case, true, 1) &&
            run_cases(&d, make_quote_case, false, 3) &&
-           run_cases(&d, make_quote_case, true, 1);
+           run_cases(&d, make_quote_case, true, 1) &&
+           run_cases(&d, make_run_case, false, 1) &&
+           run_cases(&d, make_run_case, true, 4);
 }
 
 static int run_rounds(uint64_t seed, uint64_t rounds)

@@ -49,6 +49,7 @@ static uint32_t step(const uint8_t *piece, size_t n)
 static void test_sizes(void)
 {
     EQUAL(nelqubat_is_version(), 1);
+    EQUAL(NELQUBAT_VERSION, 2);
     EQUAL(NELQUBAT_HANDLE_BYTES, nelqubat_handle_size());
     EQUAL(NELQUBAT_TABLE_BYTES, nelqubat_table_size());
     EQUAL(NELQUBAT_RECORD_BYTES, nelqubat_record_size());
@@ -62,6 +63,7 @@ static void test_sizes(void)
     EQUAL(NELQUBAT_SESSION_BYTES, PLAIN_SESSION_BYTES);
     EQUAL(NELQUBAT_LINE_BYTES, 80);
     EQUAL(NELQUBAT_STACK_BYTES, 4096);
+    EQUAL(NELQUBAT_MAX_PACKETS, PLAIN_MAX_PACKETS);
 }
 
 /* Numbers, answers and records. */
@@ -288,6 +290,45 @@ static void step_both(const uint8_t *bytes, size_t n)
     } while (a.kind == PLAIN_EVENT);
 }
 
+/* The parts of a run's answer, each at its own place. */
+static void test_run_parts(void)
+{
+    uint64_t parts = UINT64_C(0x0403020103E8091B);
+    EQUAL(nelqubat_run_refusal(parts), NELQUBAT_REFUSED_CEILING);
+    EQUAL(nelqubat_run_why(parts), NELQUBAT_CEILING);
+    EQUAL(nelqubat_run_finished(parts), NELQUBAT_MAX_PACKETS);
+    EQUAL(nelqubat_run_taken(parts), 0x04030201);
+    EQUAL(nelqubat_run_refusal(UINT64_MAX), 0xFF);
+    EQUAL(nelqubat_run_why(UINT64_MAX), 0xFF);
+    EQUAL(nelqubat_run_finished(UINT64_MAX), 0xFFFF);
+    EQUAL(nelqubat_run_taken(UINT64_MAX), 0xFFFFFFFF);
+}
+
+static void same_run(uint64_t answer, const struct plain_ran *ran)
+{
+    static const unsigned whys[] = {
+        [PLAIN_RAN_OUT] = NELQUBAT_MORE, [PLAIN_RAN_ENDED] = NELQUBAT_ENDED,
+        [PLAIN_RAN_REFUSED] = NELQUBAT_REFUSED, [PLAIN_RAN_CEILING] = NELQUBAT_CEILING};
+    EQUAL(nelqubat_run_refusal(answer), ran->refusal);
+    EQUAL(nelqubat_run_why(answer), whys[ran->why]);
+    EQUAL(nelqubat_run_finished(answer), ran->finished);
+    EQUAL(nelqubat_run_taken(answer), ran->taken);
+}
+
+/* The header's own loop, on both. */
+static void run_both(const uint8_t *bytes, size_t n, uint32_t ceiling)
+{
+    uint64_t answer;
+    do {
+        struct plain_ran ran = plain_run(&reader, plain_table, sizeof plain_table, bytes, n, ceiling);
+        answer = nelqubat_run(handle, sizeof handle, table, sizeof table, bytes, n, ceiling);
+        same_run(answer, &ran);
+        same_handle();
+        bytes += ran.taken;
+        n -= ran.taken;
+    } while (nelqubat_run_why(answer) == NELQUBAT_CEILING);
+}
+
 /* What the session left, saved and restored: a session known, and no login. */
 static void restore_both(void)
 {
@@ -338,7 +379,10 @@ static void test_sessions(void)
         start_both();
         step_both(s.at, dice_below(&d, s.n + 1));
         start_both();
-        step_both(s.at, s.n);
+        if (seed % 2 == 0)
+            step_both(s.at, s.n);
+        else
+            run_both(s.at, s.n, (uint32_t)dice_between(&d, 1, 40));
         for (size_t k = 0; k < reader.rows; k++)
             same_row(nelqubat_row(table, k), plain_table + k * PLAIN_ROW_BYTES);
         find_rows();
@@ -348,6 +392,8 @@ static void test_sessions(void)
     }
     start_both();
     step_both(LITERAL("\x00\x02" "JA"));
+    start_both();
+    run_both(LITERAL("\x00\x01" "H" "\x00\x02" "JA"), 2);
 }
 
 /* Refusals: each one by its cause, with its number in document 01 and a word of
@@ -440,11 +486,29 @@ static void test_call_refusals(void)
     refused(nelqubat_refusal(answer), NELQUBAT_REFUSED_RECORD, 26, "record");
 }
 
+/* Refusals of a run: of the call, and of a packet, with the packets before it. */
+static void test_run_refusals(void)
+{
+    uint64_t answer;
+    packets(LITERAL(LOGIN));
+    answer = nelqubat_run(handle, sizeof handle, table, sizeof table, LITERAL(DIRECTORY BID), NELQUBAT_MAX_PACKETS + 1);
+    refused(nelqubat_run_refusal(answer), NELQUBAT_REFUSED_CEILING, 27, "ceiling");
+    EQUAL(answer, 27 + 256 * NELQUBAT_REFUSED);
+    answer = nelqubat_run(handle, sizeof handle - 1, table, sizeof table, LITERAL(DIRECTORY BID), UINT32_MAX);
+    EQUAL(answer, NELQUBAT_REFUSED_MEMORY + 256 * NELQUBAT_REFUSED);
+    answer = nelqubat_run(handle, sizeof handle, table, sizeof table, LITERAL(DIRECTORY BID), NELQUBAT_MAX_PACKETS);
+    EQUAL(nelqubat_run_refusal(answer), NELQUBAT_REFUSED_NOT_TRADING);
+    EQUAL(nelqubat_run_why(answer), NELQUBAT_REFUSED);
+    EQUAL(nelqubat_run_finished(answer), 1);
+    EQUAL(nelqubat_run_taken(answer), sizeof DIRECTORY BID - 1);
+    EQUAL(nelqubat_handle_rows(handle), 1);
+}
+
 static void test_names(void)
 {
     const char *none = "no refusal has this number";
     for (unsigned n = 0; n < 300; n++) {
-        bool is_number = n <= 6 || (n >= 10 && n <= 16) || (n >= 20 && n <= 26);
+        bool is_number = n <= 6 || (n >= 10 && n <= 16) || (n >= 20 && n <= 27);
         EQUAL(strcmp(nelqubat_refusal_name(n), none) != 0, is_number);
     }
     EQUAL(strcmp(nelqubat_refusal_name(NELQUBAT_DONE), "done"), 0);
@@ -455,10 +519,12 @@ int main(void)
     test_sizes();
     test_numbers();
     test_records();
+    test_run_parts();
     test_sessions();
     test_packet_refusals();
     test_full_table();
     test_call_refusals();
+    test_run_refusals();
     test_names();
     printf("header: all %lu checks hold\n", checks);
     return fflush(stdout) == 0 ? 0 : 1;

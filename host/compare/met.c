@@ -8,7 +8,19 @@
 static const char letters[] = "SmHqQbaBAM";
 
 static const char *const kind_names[MET_KINDS] = {
-    "more", "login", "rejected", "message", "heartbeat", "end", "skipped", "ended", "refused"};
+    "more", "login", "rejected", "message", "heartbeat", "end", "skipped", "ended", "refused", "ceiling"};
+
+/* Which of these a step answers, and for which a run stops. */
+static const bool step_kinds[MET_KINDS] = {1, 1, 1, 1, 1, 1, 1, 1, 1, 0};
+static const bool run_kinds[MET_KINDS] = {1, 0, 0, 0, 0, 0, 0, 1, 1, 1};
+
+/* None at ceiling 0; none, some, or as many as a ceiling above it; as many and
+ * ended by the last of them; and as many as there can be. */
+static const char *const finish_names[MET_FINISHES] = {"zero", "none", "some", "all", "all-ended", "1000"};
+
+static const char *const start_names[MET_STARTS] = {"nothing", "held", "held-done", "ended"};
+
+static const char *const ceiling_names[MET_CEILINGS] = {"0", "1", "2-999", "1000", "1001", "over"};
 
 static const char *const line_names[MET_LINES] = {"first", "row", "last", "past"};
 
@@ -19,11 +31,13 @@ static const char *const find_names[MET_FINDS] = {"found", "several", "none", "u
 static const struct {
     const char *name;
     size_t count;
-    uint8_t refusals[15];
+    uint8_t refusals[16];
 } rows[MET_ROWS] = {
     [MET_START] = {"start", 2, {0, 20}},
     [MET_STEP] = {"step", 15, {0, 1, 2, 3, 4, 5, 6, 10, 11, 12, 13, 14, 15, 16, 20}},
     [MET_AGAIN] = {"step again", 13, {1, 2, 3, 4, 5, 6, 10, 11, 12, 13, 14, 15, 16}},
+    [MET_RUN] = {"run", 16, {0, 1, 2, 3, 4, 5, 6, 10, 11, 12, 13, 14, 15, 16, 20, 27}},
+    [MET_RUN_AGAIN] = {"run again", 13, {1, 2, 3, 4, 5, 6, 10, 11, 12, 13, 14, 15, 16}},
     [MET_SAVE] = {"save", 4, {0, 20, 24, 25}},
     [MET_RESTORE] = {"restore", 6, {0, 20, 21, 22, 23, 24}},
     [MET_READ] = {"read", 5, {0, 10, 11, 12, 20}},
@@ -45,16 +59,24 @@ static const struct {
     [MET_UNTRADABLE] = {"quote 14 N", {1, 1, 1, 1, 1, 1, 1, 1, 1, 1}},
 };
 
-static enum met_row row_of(const struct call *c, uint32_t answer)
+/* A refusal of a packet that comes again, with nothing taken. */
+static bool repeats(unsigned refusal, size_t taken)
+{
+    return refusal != NELQUBAT_DONE && refusal < NELQUBAT_REFUSED_MEMORY && taken == 0;
+}
+
+static enum met_row row_of(const struct call *c, uint64_t answer)
 {
     static const enum met_row rows_of[OPERATIONS] = {
-        [CALL_START] = MET_START, [CALL_STEP] = MET_STEP, [CALL_SAVE] = MET_SAVE,
-        [CALL_RESTORE] = MET_RESTORE, [CALL_READ] = MET_READ, [CALL_WRITE] = MET_WRITE,
-        [CALL_LINE] = MET_LINE, [CALL_FIND] = MET_FIND};
-    bool repeats = c->op == CALL_STEP && nelqubat_kind(answer) == NELQUBAT_REFUSED &&
-                   nelqubat_refusal(answer) != NELQUBAT_REFUSED_MEMORY &&
-                   nelqubat_taken(answer) == 0;
-    return repeats ? MET_AGAIN : rows_of[c->op];
+        [CALL_START] = MET_START, [CALL_STEP] = MET_STEP, [CALL_RUN] = MET_RUN,
+        [CALL_SAVE] = MET_SAVE, [CALL_RESTORE] = MET_RESTORE, [CALL_READ] = MET_READ,
+        [CALL_WRITE] = MET_WRITE, [CALL_LINE] = MET_LINE, [CALL_FIND] = MET_FIND};
+    uint32_t low = (uint32_t)answer;
+    if (c->op == CALL_STEP && repeats(nelqubat_refusal(low), nelqubat_taken(low)))
+        return MET_AGAIN;
+    if (c->op == CALL_RUN && repeats(nelqubat_run_refusal(answer), nelqubat_run_taken(answer)))
+        return MET_RUN_AGAIN;
+    return rows_of[c->op];
 }
 
 static void count_letter(unsigned long *counts, uint8_t letter)
@@ -154,16 +176,61 @@ static void count_done(struct met *m, const struct call *c, uint32_t answer,
         m->finds[find_of((uint32_t)c->k, answer, plain)]++;
 }
 
-void met_count(struct met *m, const struct call *c, uint32_t answer,
+static unsigned finish_of(uint32_t ceiling, uint64_t answer)
+{
+    unsigned finished = nelqubat_run_finished(answer);
+    if (ceiling == 0 || finished == 0)
+        return ceiling != 0;
+    if (finished < ceiling)
+        return 2;
+    if (nelqubat_run_why(answer) == NELQUBAT_ENDED)
+        return 4;
+    return finished == NELQUBAT_MAX_PACKETS ? 5 : 3;
+}
+
+static unsigned ceiling_of(uint32_t ceiling)
+{
+    if (ceiling < 2)
+        return ceiling;
+    if (ceiling < NELQUBAT_MAX_PACKETS)
+        return 2;
+    return ceiling - NELQUBAT_MAX_PACKETS < 2 ? ceiling - NELQUBAT_MAX_PACKETS + 3 : 5;
+}
+
+/* What the handle had. One that had ended finishes nothing and ends; where bytes
+ * were held, their packet may have been finished. */
+static unsigned start_of(uint64_t answer, size_t held)
+{
+    unsigned finished = nelqubat_run_finished(answer);
+    if (nelqubat_run_why(answer) == NELQUBAT_ENDED && finished == 0)
+        return 3;
+    return held == 0 ? 0 : finished == 0 ? 1 : 2;
+}
+
+/* A run by a reader that it could judge: 20 and 27 are counted as refusals only. */
+static void count_run(struct met *m, const struct call *c, uint64_t answer, size_t held)
+{
+    m->ceilings[ceiling_of((uint32_t)c->k)]++;
+    m->whys[nelqubat_run_why(answer) % MET_KINDS]++;
+    if (nelqubat_run_refusal(answer) >= NELQUBAT_REFUSED_MEMORY)
+        return;
+    m->finishes[finish_of((uint32_t)c->k, answer)]++;
+    m->starts[start_of(answer, held)]++;
+}
+
+void met_count(struct met *m, const struct call *c, uint64_t answer,
                const struct world *plain, const uint8_t *input, size_t held)
 {
-    unsigned refusal = nelqubat_refusal(answer);
+    uint32_t low = (uint32_t)answer;
+    unsigned refusal = nelqubat_refusal(low);
     if (refusal < MET_REFUSALS)
         m->refusals[row_of(c, answer)][refusal]++;
-    if (refusal == 0)
-        count_done(m, c, answer, plain, input);
+    if (c->op == CALL_RUN)
+        count_run(m, c, answer, held);
+    else if (refusal == 0)
+        count_done(m, c, low, plain, input);
     else if (c->op == CALL_STEP)
-        count_refused(m, answer, plain, input, held);
+        count_refused(m, low, plain, input, held);
 }
 
 /* One line of the table. A cell that cannot be met must be empty, and where
@@ -225,6 +292,14 @@ static bool report_names(const char *call, const char *const *names,
     return end_line(&l);
 }
 
+static bool report_kinds(const char *call, const unsigned long *counts, const bool *can, bool all)
+{
+    struct line l = begin_line(call, all);
+    for (size_t i = 0; i < MET_KINDS; i++)
+        add_cell(&l, kind_names[i], counts[i], can[i]);
+    return end_line(&l);
+}
+
 static bool report_letters(const char *call, const unsigned long *counts, bool all)
 {
     struct line l = begin_line(call, all);
@@ -249,7 +324,11 @@ bool met_report(const struct met *m, bool all)
     bool good = true;
     for (unsigned row = 0; row < MET_ROWS; row++)
         good &= report_refusals(m, (enum met_row)row, all);
-    good &= report_names("step", kind_names, m->kinds, MET_KINDS, all);
+    good &= report_kinds("step", m->kinds, step_kinds, all);
+    good &= report_kinds("run", m->whys, run_kinds, all);
+    good &= report_names("finished", finish_names, m->finishes, MET_FINISHES, all);
+    good &= report_names("run from", start_names, m->starts, MET_STARTS, all);
+    good &= report_names("run up to", ceiling_names, m->ceilings, MET_CEILINGS, all);
     for (size_t i = 0; i < MET_LETTER_CALLS; i++)
         good &= report_letters(letter_calls[i], m->letters[i], all);
     for (unsigned quote = 0; quote < MET_QUOTES; quote++)

@@ -1,5 +1,6 @@
-/* How often each call met each refusal and each kind of answer and message, and
- * quotes each state of a row: a comparison that never met one says nothing of it. */
+/* How often each call met each refusal and each kind of answer and message, quotes
+ * each state of a row, and runs each way to stop: a comparison that never met one
+ * says nothing of it. */
 #ifndef MET_H
 #define MET_H
 
@@ -7,7 +8,7 @@
 
 /* Counts the plain reader's answer to a call that was made with this input, when
  * the handle held so many bytes. */
-void met_count(struct met *m, const struct call *c, uint32_t answer,
+void met_count(struct met *m, const struct call *c, uint64_t answer,
                const struct world *plain, const uint8_t *input, size_t held);
 
 /* Prints the counts, and names on standard error what was met although no call

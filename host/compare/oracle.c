@@ -301,6 +301,33 @@ uint32_t oracle_step(uint8_t *handle, size_t handle_n,
     return step_answer(0, tell_event(&r, &a, event), a.taken);
 }
 
+static uint64_t run_answer(const struct plain_ran *ran)
+{
+    static const unsigned whys[] = {
+        [PLAIN_RAN_OUT] = NELQUBAT_MORE, [PLAIN_RAN_ENDED] = NELQUBAT_ENDED,
+        [PLAIN_RAN_REFUSED] = NELQUBAT_REFUSED, [PLAIN_RAN_CEILING] = NELQUBAT_CEILING};
+    return ran->refusal | whys[ran->why] << 8 | (uint64_t)ran->finished << 16 |
+           (uint64_t)ran->taken << 32;
+}
+
+/* The plain reader completes a packet in its held places; a handle keeps them,
+ * but for the bytes that are held in the end. */
+uint64_t oracle_run(uint8_t *handle, size_t handle_n,
+                    uint8_t *table, size_t table_n,
+                    const uint8_t *piece, size_t piece_n, uint32_t ceiling)
+{
+    struct plain_reader r;
+    struct plain_ran ran = {PLAIN_RAN_REFUSED, 20, 0, 0};
+    if (unpack_handle(handle, handle_n, &r))
+        ran = plain_run(&r, table, table_n, piece, piece_n, ceiling);
+    if (ran.refusal == 20 || ran.refusal == 27)
+        return run_answer(&ran);
+    pack_fields(&r, handle);
+    if (ran.why == PLAIN_RAN_OUT)
+        memcpy(handle + NELQUBAT_HANDLE_PACKET, r.held, r.used);
+    return run_answer(&ran);
+}
+
 uint32_t oracle_save(const uint8_t *handle, size_t handle_n,
                      const uint8_t *table, size_t table_n,
                      uint8_t *out, size_t out_n)

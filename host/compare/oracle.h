@@ -18,6 +18,9 @@ uint32_t oracle_step(uint8_t *handle, size_t handle_n,
                      uint8_t *table, size_t table_n,
                      const uint8_t *piece, size_t piece_n,
                      uint8_t *event, size_t event_n);
+uint64_t oracle_run(uint8_t *handle, size_t handle_n,
+                    uint8_t *table, size_t table_n,
+                    const uint8_t *piece, size_t piece_n, uint32_t ceiling);
 uint32_t oracle_save(const uint8_t *handle, size_t handle_n,
                      const uint8_t *table, size_t table_n,
                      uint8_t *out, size_t out_n);

@@ -3,22 +3,25 @@
 #include "calls.h"
 #include "generate.h"
 #include "met.h"
+#include "stepped.h"
 
+#include <inttypes.h>
 #include <stdio.h>
 #include <string.h>
 
 /* What is compared when. After every call: every bit of the answer, and every
  * byte of the handle's, event's, record's and output's memory with the guards
- * around them. The table: whole, guards included, after every start and
- * restore, after every call of a thorough case (as are all replayed and shrunk
+ * around them. The table: whole, guards included, after every start, restore and
+ * run, after every call of a thorough case (as are all replayed and shrunk
  * ones), and otherwise after every 64th step and at the end of each case; in
- * between, after each step, the first sixteen rows in use and the guards. */
+ * between, after each step, the first sixteen rows in use and the guards. A run
+ * is also held to steps of the library over the memory that it was given. */
 enum { WHOLE_EVERY = 64, ROWS_EACH_STEP = 16 };
 
 enum { GUARD_FILL = 0xA5, MEMORY_FILL = 0xC3 };
 
 static const char *const names[OPERATIONS] = {
-    "start", "step", "feed", "save", "restore", "resume", "read", "write", "line", "find"};
+    "start", "step", "feed", "run", "turns", "save", "restore", "resume", "read", "write", "line", "find"};
 
 const char *operation_name(enum operation op)
 {
@@ -122,7 +125,7 @@ static bool same_rows(struct pair *p)
 
 static bool same_table(struct pair *p, enum operation op)
 {
-    if (p->thorough || op == CALL_START || op == CALL_RESTORE ||
+    if (p->thorough || op == CALL_START || op == CALL_RESTORE || op == CALL_RUN ||
         (op == CALL_STEP && ++p->since >= WHOLE_EVERY))
         return same_whole_table(p);
     return op != CALL_STEP || same_rows(p);
@@ -147,7 +150,7 @@ bool pair_same(struct pair *p)
     return same_handle_and_small(p) && same_whole_table(p) && same_image(p);
 }
 
-static uint32_t make_call(const struct calls *f, struct world *w,
+static uint64_t make_call(const struct calls *f, struct world *w,
                           const struct call *c, const uint8_t *input, size_t n)
 {
     uint8_t *handle = w->handle + GUARD_BYTES, *table = w->table + GUARD_BYTES;
@@ -155,6 +158,8 @@ static uint32_t make_call(const struct calls *f, struct world *w,
     switch (c->op) {
     case CALL_START:
         return f->start(handle, c->handle_n, table, c->table_n);
+    case CALL_RUN:
+        return f->run(handle, c->handle_n, table, c->table_n, input, n, (uint32_t)c->k);
     case CALL_SAVE:
         return f->save(handle, c->handle_n, table, c->table_n, image, c->memory_n);
     case CALL_RESTORE:
@@ -174,20 +179,46 @@ static uint32_t make_call(const struct calls *f, struct world *w,
     }
 }
 
-static bool same_answer(struct pair *p, uint32_t got, uint32_t wanted)
+static bool same_answer(struct pair *p, uint64_t got, uint64_t wanted)
 {
     if (got == wanted)
         return true;
     snprintf(p->difference, sizeof p->difference,
-             "%s: answer is %08X, should be %08X", operation_name(p->doing),
-             (unsigned)got, (unsigned)wanted);
+             "%s: answer is %08" PRIX64 ", should be %08" PRIX64, operation_name(p->doing),
+             got, wanted);
     return false;
 }
 
-/* A packet was finished, by acceptance or refusal. */
-static bool ends_packet(uint32_t answer)
+/* How many packets came to their end in a step or a run, by acceptance or
+ * refusal. */
+static unsigned packets_ended(enum operation op, uint64_t answer)
 {
-    return nelqubat_kind(answer) != NELQUBAT_MORE && nelqubat_taken(answer) != 0;
+    bool refuses = nelqubat_run_why(answer) == NELQUBAT_REFUSED;
+    if (op == CALL_STEP)
+        return nelqubat_kind((uint32_t)answer) != NELQUBAT_MORE && nelqubat_taken((uint32_t)answer) != 0;
+    if (op == CALL_RUN)
+        return nelqubat_run_finished(answer) + (refuses && nelqubat_run_taken(answer) != 0);
+    return 0;
+}
+
+static void copy_reader(struct world *to, const struct world *from)
+{
+    memcpy(to->handle, from->handle, sizeof to->handle);
+    memcpy(to->table, from->table, sizeof to->table);
+}
+
+/* A run must answer and leave what the library's own steps do. */
+static bool same_as_steps(struct pair *p, const struct call *c, const uint8_t *input, size_t n,
+                          uint64_t got)
+{
+    uint64_t wanted = stepped_run(&library_calls, p->stepped.handle + GUARD_BYTES, c->handle_n,
+                                  p->stepped.table + GUARD_BYTES, c->table_n, input, n,
+                                  (uint32_t)c->k);
+    return same_answer(p, got, wanted) &&
+           same_memory(p, "handle, beside steps,", p->library.handle, p->stepped.handle,
+                       sizeof p->stepped.handle) &&
+           same_memory(p, "table, beside steps,", p->library.table, p->stepped.table,
+                       sizeof p->stepped.table);
 }
 
 /* One call on both sides, each with its own input; all but the table is
@@ -196,18 +227,20 @@ static bool call_both(struct pair *p, const struct call *c, const uint8_t *libra
                       const uint8_t *plain_input, size_t n)
 {
     size_t held = nelqubat_handle_held(p->plain.handle + GUARD_BYTES);
-    uint32_t got;
+    uint64_t got;
     p->doing = c->op;
     p->calls++;
+    if (c->op == CALL_RUN)
+        copy_reader(&p->stepped, &p->library);
     got = make_call(&library_calls, &p->library, c, library_input, n);
     p->answer = make_call(&plain_calls, &p->plain, c, plain_input, n);
     met_count(&p->met, c, p->answer, &p->plain, plain_input, held);
-    if (c->op == CALL_STEP && ends_packet(p->answer))
-        p->packets++;
+    p->packets += packets_ended(c->op, p->answer);
     if (c->op == CALL_SAVE)
-        p->saved = nelqubat_written(p->answer);
+        p->saved = nelqubat_written((uint32_t)p->answer);
     return same_answer(p, got, p->answer) && same_handle_and_small(p) &&
-           same_table(p, c->op) && (c->op != CALL_SAVE || same_image(p));
+           same_table(p, c->op) && (c->op != CALL_SAVE || same_image(p)) &&
+           (c->op != CALL_RUN || same_as_steps(p, c, library_input, n, got));
 }
 
 static bool same_input(struct pair *p, const uint8_t *input, size_t n)
@@ -228,25 +261,34 @@ static bool call_once(struct pair *p, const struct call *c, const uint8_t *input
            same_input(p, input, c->input_n);
 }
 
-/* Steps through a piece. A reader that takes no more is asked twice more;
- * later feeds are passed over. */
+/* One step or run from a place of a piece on, which moves by what was taken. */
+static bool advance(struct pair *p, enum operation op, const struct call *c, const uint8_t *input,
+                    size_t *at)
+{
+    struct call one = *c;
+    one.op = op;
+    if (!call_both(p, &one, p->input + *at, input + *at, c->input_n - *at))
+        return false;
+    *at += op == CALL_RUN ? nelqubat_run_taken(p->answer) : nelqubat_taken((uint32_t)p->answer);
+    return true;
+}
+
+/* Steps through a piece, or makes a run and a step in turn, until a step tells no
+ * event. A reader that takes no more is asked twice more; later pieces are
+ * passed over. */
 static bool feed(struct pair *p, const struct call *c, const uint8_t *input)
 {
-    struct call step = *c;
     size_t at = 0;
-    unsigned kind;
-    step.op = CALL_STEP;
     if (p->idle > 2)
         return true;
     if (c->input_n != 0)
         memcpy(p->input, input, c->input_n);
     do {
-        if (!call_both(p, &step, p->input + at, input + at, c->input_n - at))
+        if ((c->op == CALL_TURNS && !advance(p, CALL_RUN, c, input, &at)) ||
+            !advance(p, CALL_STEP, c, input, &at))
             return false;
-        kind = nelqubat_kind(p->answer);
-        at += nelqubat_taken(p->answer);
-    } while (nelqubat_is_event(p->answer));
-    if (kind != NELQUBAT_MORE)
+    } while (nelqubat_is_event((uint32_t)p->answer));
+    if (nelqubat_kind((uint32_t)p->answer) != NELQUBAT_MORE)
         p->idle++;
     return same_input(p, input, c->input_n);
 }
@@ -276,7 +318,7 @@ static bool resume(struct pair *p, const struct call *c)
 
 bool pair_call(struct pair *p, const struct call *c, const uint8_t *input)
 {
-    if (c->op == CALL_FEED)
+    if (c->op == CALL_FEED || c->op == CALL_TURNS)
         return feed(p, c, input);
     if (c->op == CALL_RESUME)
         return resume(p, c);

@@ -20,10 +20,11 @@ enum {
 };
 
 /* The calls. `feed` steps through its input until the reader wants more, has
- * ended or refuses. `resume` saves, restores what was saved and logs in again. */
+ * ended or refuses; `turns` does so by a run and a step in turn. `resume` saves,
+ * restores what was saved and logs in again. */
 enum operation {
-    CALL_START, CALL_STEP, CALL_FEED, CALL_SAVE, CALL_RESTORE, CALL_RESUME,
-    CALL_READ, CALL_WRITE, CALL_LINE, CALL_FIND,
+    CALL_START, CALL_STEP, CALL_FEED, CALL_RUN, CALL_TURNS, CALL_SAVE, CALL_RESTORE,
+    CALL_RESUME, CALL_READ, CALL_WRITE, CALL_LINE, CALL_FIND,
     OPERATIONS
 };
 
@@ -36,7 +37,7 @@ struct call {
     uint32_t handle_n, table_n;
     uint32_t memory_n; /* event, record or out memory */
     uint32_t input_n;
-    uint64_t k; /* the line or the id that is asked for */
+    uint64_t k; /* the line or the id that is asked for, or a run's ceiling */
 };
 
 /* A call that lends every memory with its right length, and much for output. */
@@ -54,12 +55,15 @@ struct world {
 
 /* What the calls met; met.h counts and prints it. */
 enum met_row {
-    MET_START, MET_STEP, MET_AGAIN, MET_SAVE, MET_RESTORE, MET_READ, MET_WRITE, MET_LINE,
-    MET_FIND,
+    MET_START, MET_STEP, MET_AGAIN, MET_RUN, MET_RUN_AGAIN, MET_SAVE, MET_RESTORE, MET_READ,
+    MET_WRITE, MET_LINE, MET_FIND,
     MET_ROWS
 };
 
-enum { MET_REFUSALS = 27, MET_KINDS = 9, MET_LETTERS = 10, MET_LETTER_CALLS = 3, MET_LINES = 4, MET_FINDS = 4 };
+enum {
+    MET_REFUSALS = 28, MET_KINDS = 10, MET_LETTERS = 10, MET_LETTER_CALLS = 3, MET_LINES = 4, MET_FINDS = 4,
+    MET_FINISHES = 6, MET_STARTS = 4, MET_CEILINGS = 6
+};
 
 /* What became of a quote to a row: taken, or refused with 14 although tradable
  * is Y, or with another tradable. */
@@ -71,6 +75,10 @@ enum { MET_STATES = 10 };
 struct met {
     unsigned long refusals[MET_ROWS][MET_REFUSALS];
     unsigned long kinds[MET_KINDS];                      /* of a step's answer */
+    unsigned long whys[MET_KINDS];                       /* why a run stopped */
+    unsigned long finishes[MET_FINISHES];                /* packets a run finished, beside its ceiling */
+    unsigned long starts[MET_STARTS];                    /* what the handle of a run had before it */
+    unsigned long ceilings[MET_CEILINGS];
     unsigned long letters[MET_LETTER_CALLS][MET_LETTERS]; /* told by a step, read, written */
     unsigned long lines[MET_LINES];                      /* the first, a row's, the last, past it */
     unsigned long finds[MET_FINDS];                      /* a row alone, of several, none, one out of use */
@@ -79,14 +87,15 @@ struct met {
 
 struct pair {
     struct world library, plain;
+    struct world stepped;       /* the library's memory after a run made of its steps */
     struct met met;
     uint8_t input[INPUT_ROOM];  /* the library's copy of a call's input */
     bool thorough;              /* compare the whole table after every call */
     unsigned since;             /* steps since the whole table was compared */
-    unsigned idle;              /* feeds since the reader takes no more */
+    unsigned idle;              /* feeds and turns since the reader takes no more */
     bool image_used;            /* image memory was written to since it was filled */
     size_t saved;               /* bytes that the latest save wrote */
-    uint32_t answer;            /* what the plain reader answered last */
+    uint64_t answer;            /* what the plain reader answered last */
     enum operation doing;       /* the call under way */
     unsigned long packets, calls;
     char difference[200];       /* the first difference, in words */

@@ -115,8 +115,8 @@ static bool drop_calls(struct script *s, struct script *spare, struct pair *p)
 
 static bool joinable(const struct call *a, const struct call *b)
 {
-    return a->op == CALL_FEED && b->op == CALL_FEED && a->handle_n == b->handle_n &&
-           a->table_n == b->table_n && a->memory_n == b->memory_n;
+    return (a->op == CALL_FEED || a->op == CALL_TURNS) && a->op == b->op && a->k == b->k &&
+           a->handle_n == b->handle_n && a->table_n == b->table_n && a->memory_n == b->memory_n;
 }
 
 /* Joins every two pieces that follow each other. */
@@ -283,7 +283,7 @@ bool script_write(const struct script *s, const char *path, const char *remark)
     f = fopen(temporary, "w");
     if (f == NULL)
         return false;
-    fprintf(f, "%s\n# %s\n# CALL HANDLE-LENGTH TABLE-LENGTH MEMORY-LENGTH LINE-OR-ID INPUT\nhandle", title, remark);
+    fprintf(f, "%s\n# %s\n# CALL HANDLE-LENGTH TABLE-LENGTH MEMORY-LENGTH LINE-ID-OR-CEILING INPUT\nhandle", title, remark);
     write_hex(f, s->handle, sizeof s->handle);
     write_table(f, s->table);
     write_calls(f, s);

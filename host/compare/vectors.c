@@ -13,7 +13,8 @@
 #include <string.h>
 
 enum {
-    ROOM = 1 << 16,       /* of a memory, a line's words and the text */
+    ROOM = 1 << 16,       /* of a memory and a line's words */
+    TEXT_ROOM = 1 << 18,
     LOG_ROOM = 1 << 20,
     PACKETS = 64,
     NAME_ROOM = 32
@@ -170,6 +171,16 @@ static size_t next_number(char **line)
     return n;
 }
 
+/* A run's ceiling, which may be any number of 32 bits. */
+static uint32_t next_ceiling(char **line)
+{
+    char *word = next_word(line), *end;
+    unsigned long long n = strtoull(word, &end, 10);
+    if (!isdigit((unsigned char)*word) || *end != 0 || n > UINT32_MAX)
+        fault("? ceiling");
+    return (uint32_t)n;
+}
+
 static bool is_pair(const char *s, uint8_t *byte)
 {
     char two[3] = {s[0], s[0] ? s[1] : 0, 0};
@@ -314,6 +325,12 @@ static uint32_t call_step(const uint8_t *piece, size_t n)
     return calls->step(handle->bytes, handle->n, table->bytes, table->n, piece, n, event->bytes, event->n);
 }
 
+static uint64_t call_run(const uint8_t *piece, size_t n, uint32_t ceiling)
+{
+    struct memory *handle = &memories[HANDLE], *table = &memories[TABLE];
+    return calls->run(handle->bytes, handle->n, table->bytes, table->n, piece, n, ceiling);
+}
+
 static uint32_t call_start(void)
 {
     tape_n = events = 0;
@@ -389,6 +406,19 @@ static void tell_step(uint32_t answer)
     if (kind == NELQUBAT_REFUSED)
         add("%u", answer % 256);
     tell_count(answer / 65536, "taken");
+}
+
+static void tell_run(uint64_t answer)
+{
+    static const char *const whys[] = {
+        [NELQUBAT_MORE] = "more wanted", [NELQUBAT_ENDED] = "ended", [NELQUBAT_REFUSED] = "refused ",
+        [NELQUBAT_CEILING] = "ceiling"};
+    unsigned why = nelqubat_run_why(answer), refusal = nelqubat_run_refusal(answer);
+    tell(why <= NELQUBAT_CEILING && whys[why] ? whys[why] : "no such reason");
+    if (why == NELQUBAT_REFUSED || refusal != 0)
+        add("%u", refusal);
+    tell_count(nelqubat_run_finished(answer), "finished");
+    tell_count(nelqubat_run_taken(answer), "taken");
 }
 
 static void tell_refusal(uint32_t answer, const char *words)
@@ -520,6 +550,13 @@ static void do_step(char *line)
 {
     lay(line);
     tell_step(call_step(memories[GIVEN].bytes, memories[GIVEN].n));
+}
+
+static void do_run(char *line)
+{
+    uint32_t ceiling = next_ceiling(&line);
+    lay(line);
+    tell_run(call_run(memories[GIVEN].bytes, memories[GIVEN].n, ceiling));
 }
 
 static void do_feed(char *line)
@@ -766,6 +803,66 @@ static void do_sizes(char *line)
     tell_count(agreed, "agreed");
 }
 
+/* How far a way through the bytes came. */
+struct reached {
+    size_t finished, taken;
+};
+
+/* Steps, until so many packets are finished or a step tells no event. */
+static struct reached by_steps(size_t most)
+{
+    const struct memory *given = &memories[GIVEN];
+    struct reached r = {0, 0};
+    while (r.finished < most) {
+        uint32_t answer = call_step(given->bytes + r.taken, given->n - r.taken);
+        r.taken += nelqubat_taken(answer);
+        if (!nelqubat_is_event(answer))
+            break;
+        r.finished++;
+    }
+    return r;
+}
+
+/* One run, or runs until one stops for another reason than its ceiling. */
+static struct reached by_runs(uint32_t ceiling, bool is_one)
+{
+    const struct memory *given = &memories[GIVEN];
+    struct reached r = {0, 0};
+    uint64_t answer;
+    do {
+        answer = call_run(given->bytes + r.taken, given->n - r.taken, ceiling);
+        r.finished += nelqubat_run_finished(answer);
+        r.taken += nelqubat_run_taken(answer);
+    } while (!is_one && nelqubat_run_why(answer) == NELQUBAT_CEILING);
+    return r;
+}
+
+/* Do both ways come as far, and leave every byte of handle and table the same? */
+static bool run_as_steps(uint32_t ceiling, bool is_one)
+{
+    go_back();
+    struct reached steps = by_steps(is_one ? ceiling : ROOM);
+    memcpy(whole, memories, sizeof whole);
+    go_back();
+    struct reached runs = by_runs(ceiling, is_one);
+    return steps.finished == runs.finished && steps.taken == runs.taken &&
+           same(&memories[HANDLE], &whole[HANDLE]) && same(&memories[TABLE], &whole[TABLE]);
+}
+
+static void do_runs(char *line)
+{
+    enum { HIGHEST = 8 };
+    size_t one = 0, all = 0;
+    lay(line);
+    for (uint32_t ceiling = 0; ceiling <= HIGHEST; ceiling++) {
+        one += run_as_steps(ceiling, true);
+        all += run_as_steps(ceiling, ceiling == 0);
+    }
+    tell_count(HIGHEST + 1, "tried");
+    tell_count(one, "agreed");
+    tell_count(all, "agreed to the end");
+}
+
 /* Saved, restored over other bytes, and logged in again where a session is known. */
 static void resume(void)
 {
@@ -807,12 +904,12 @@ static const struct command {
     void (*run)(char *line);
 } commands[] = {
     {"packet", do_packet}, {"begin", do_begin}, {"set", do_set}, {"fill", do_fill},
-    {"start", do_start}, {"step", do_step}, {"feed", do_feed}, {"restore", do_restore},
+    {"start", do_start}, {"step", do_step}, {"run", do_run}, {"feed", do_feed}, {"restore", do_restore},
     {"read", do_read}, {"write", do_write}, {"save", do_save},
     {"left", do_left}, {"same", do_same}, {"show", do_show}, {"number", do_number},
     {"line", do_line}, {"list", do_list}, {"find", do_find},
     {"try", do_try}, {"values", do_values}, {"standing", do_standing}, {"damaged", do_damaged},
-    {"cuts", do_cuts}, {"sizes", do_sizes}, {"resumed", do_resumed}};
+    {"cuts", do_cuts}, {"sizes", do_sizes}, {"runs", do_runs}, {"resumed", do_resumed}};
 
 static void run_command(char *line)
 {
@@ -929,7 +1026,7 @@ static bool run_text(const char *text, const struct calls *which)
 
 int main(int argc, char **argv)
 {
-    static char text[ROOM];
+    static char text[TEXT_ROOM];
     if (argc != 2) {
         fprintf(stderr, "usage: vectors CASES\n");
         return 2;
@@ -937,7 +1034,7 @@ int main(int argc, char **argv)
     FILE *file = fopen(argv[1], "rb");
     size_t n = file ? fread(text, 1, sizeof text, file) : 0;
     if (!file || ferror(file) || n == sizeof text) {
-        fprintf(stderr, "vectors: %s cannot be read, or is longer than 65535 bytes\n", argv[1]);
+        fprintf(stderr, "vectors: %s cannot be read, or is longer than %d bytes\n", argv[1], TEXT_ROOM - 1);
         return 2;
     }
     fclose(file);

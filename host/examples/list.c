@@ -1,22 +1,22 @@
-/* Reads a session on standard input in pieces and prints its listing. */
+/* Reads a session on standard input in pieces and prints its listing. It tells
+ * no events, so it reads by runs. */
 #include "nelqubat.h"
 
 #include <stdio.h>
 
 static uint8_t handle[NELQUBAT_HANDLE_BYTES], table[NELQUBAT_TABLE_BYTES];
 
-/* Steps through one piece; 0 once the reader takes no more. */
+/* Runs through one piece; 0 once the reader takes no more. */
 static int feed(const uint8_t *piece, size_t n)
 {
-    uint8_t event[NELQUBAT_RECORD_BYTES];
-    uint32_t answer;
+    uint64_t answer;
     do {
-        answer = nelqubat_step(handle, sizeof handle, table, sizeof table, piece, n, event,
-                               sizeof event);
-        piece += nelqubat_taken(answer);
-        n -= nelqubat_taken(answer);
-    } while (nelqubat_is_event(answer));
-    return nelqubat_kind(answer) == NELQUBAT_MORE;
+        answer = nelqubat_run(handle, sizeof handle, table, sizeof table, piece, n,
+                              NELQUBAT_MAX_PACKETS);
+        piece += nelqubat_run_taken(answer);
+        n -= nelqubat_run_taken(answer);
+    } while (nelqubat_run_why(answer) == NELQUBAT_CEILING);
+    return nelqubat_run_why(answer) == NELQUBAT_MORE;
 }
 
 static void print_listing(void)

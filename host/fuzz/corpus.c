@@ -9,6 +9,9 @@
 #include <stdio.h>
 #include <string.h>
 
+/* What is added to an input's first byte, for runs and steps in turn. */
+enum { BY_RUNS = 4 };
+
 static uint8_t session[1 << 16];
 static size_t session_n;
 static uint8_t input[1 << 16];
@@ -49,13 +52,13 @@ static bool finish(void)
     return good;
 }
 
-/* The session's start, short and whole, cut in each way. */
+/* The session's start, short and whole, cut in each way, by steps and by runs. */
 static bool add_sessions(void)
 {
     static const size_t lengths[] = {40, 700, sizeof session};
     for (size_t i = 0; i < sizeof lengths / sizeof *lengths; i++)
-        for (unsigned how = 0; how < 16; how++) {
-            begin(0, (uint8_t)how);
+        for (unsigned how = 0; how < 32; how++) {
+            begin((uint8_t)(how / 16 * BY_RUNS), (uint8_t)(how % 16));
             add(session, session_n < lengths[i] ? session_n : lengths[i]);
             if (!finish())
                 return false;
@@ -64,7 +67,7 @@ static bool add_sessions(void)
 }
 
 /* The handle, table and image after some packets, with the packets that
- * follow behind them. */
+ * follow behind them; by runs for every second file. */
 static bool add_tables(const struct plain_reader *r, const uint8_t *table, size_t at)
 {
     static uint8_t image[PLAIN_IMAGE_BYTES];
@@ -72,7 +75,7 @@ static bool add_tables(const struct plain_reader *r, const uint8_t *table, size_
     size_t n, left = session_n - at < 600 ? session_n - at : 600;
     size_t rows = r->rows < 63 ? r->rows : 63;
     oracle_pack_handle(r, handle);
-    begin(2, (uint8_t)(rows << 2));
+    begin((uint8_t)(2 + files % 2 * BY_RUNS), (uint8_t)(rows << 2));
     add(handle, sizeof handle);
     add(table, rows * PLAIN_ROW_BYTES);
     add(session + at, left);
@@ -80,7 +83,7 @@ static bool add_tables(const struct plain_reader *r, const uint8_t *table, size_
         return false;
     if (plain_save(r, table, PLAIN_TABLE_BYTES, image, sizeof image, &n) != 0)
         return true;
-    begin(1, 32 + 4);
+    begin((uint8_t)(1 + files % 2 * BY_RUNS), 32 + 4);
     add(image, n);
     add(session + at, left);
     return finish();

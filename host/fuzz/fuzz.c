@@ -1,7 +1,8 @@
 /* A fuzzing target over the C interface: any input is turned into calls, which
  * the library must answer as the plain reader does; a difference aborts.
  *
- * Byte 0 of the input says what is done and byte 1 how; the rest is used as
+ * Byte 0 of the input says what is done, with 4 more by runs and steps in turn
+ * and not by steps alone, and byte 1 how; the rest is used as
  *   0  a session, stepped through in pieces
  *   1  an image that is restored, and bytes to step through after it
  *   2  a handle, rows of a table, and bytes to step through
@@ -19,6 +20,7 @@
 int LLVMFuzzerTestOneInput(const uint8_t *data, size_t size);
 
 static struct pair pair;
+static bool by_runs;
 
 /* What is left of the input. */
 struct rest {
@@ -48,17 +50,33 @@ static void call_usual(enum operation op, struct rest input)
     call(usual_call(op), input);
 }
 
-/* Steps through the rest: whole, in single bytes, as the network cuts, or in
- * pieces whose sizes the input gives. */
+/* A run's ceiling for a piece, by its last byte: mostly a low one. */
+static uint32_t ceiling_for(struct rest piece)
+{
+    static const uint32_t edges[] = {0, 1, 999, 1000, 1001, 65537, UINT32_C(1) << 31, UINT32_MAX};
+    uint8_t last = piece.n > 0 ? piece.at[piece.n - 1] : 0;
+    return last < 248 ? last % 12 : edges[last - 248];
+}
+
+static void feed_piece(struct rest piece)
+{
+    struct call c = usual_call(by_runs ? CALL_TURNS : CALL_FEED);
+    if (by_runs)
+        c.k = ceiling_for(piece);
+    call(c, piece);
+}
+
+/* Reads the rest: whole, in single bytes, as the network cuts, or in pieces
+ * whose sizes the input gives. */
 static void feed(struct rest input, unsigned how)
 {
     size_t size = how % 4 == 0 ? input.n : how % 4 == 1 ? 1 : 1460;
     while (input.n > 0) {
         if (how % 4 == 3)
             size = 1 + input.at[0] % 64;
-        call_usual(CALL_FEED, take(&input, size));
+        feed_piece(take(&input, size));
     }
-    call_usual(CALL_FEED, input);
+    feed_piece(input);
 }
 
 /* Lists, looks for rows, saves and, if so asked, goes on from what was saved. */
@@ -146,6 +164,7 @@ int LLVMFuzzerTestOneInput(const uint8_t *data, size_t size)
     how = data[1];
     pair.thorough = size < 4096;
     pair_fill(&pair, handle, table, true);
+    by_runs = data[0] / 4 % 2 == 1;
     switch (data[0] % 4) {
     case 0:
         do_session(input, how);

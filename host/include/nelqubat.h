@@ -16,20 +16,32 @@
  *       ... until nelqubat_is_event(a) is 0: more bytes wanted, ended or refused
  *   }
  *
+ * A host that wants no events, only the table, reads by runs: a call for as many
+ * packets as it lets pass before it looks at the rows, 1,000 at most.
+ *
+ *   uint64_t a;
+ *   do {
+ *       a = nelqubat_run(handle, sizeof handle, table, sizeof table, piece, n, 200);
+ *       piece += nelqubat_run_taken(a);
+ *       n -= nelqubat_run_taken(a);
+ *       ... show the rows
+ *   } while (nelqubat_run_why(a) == NELQUBAT_CEILING);
+ *
  * The host lends all memory, each as a pointer and a count of bytes, and the
  * library keeps nothing between calls. A pointer must not be null, even where
  * the count is 0. Memories that are lent to one call must not overlap, except
  * that memory which is only read may be the same. Nothing is allocated and
  * nothing is printed.
  *
- * Stack: measured by `host/run stack`, a step takes up to 1,100 bytes, saving
- * and restoring up to 1,600 and every other call up to 400;
+ * Stack: measured by `host/run stack`, a step and a run take up to 1,400 bytes,
+ * saving and restoring up to 1,600 and every other call up to 400;
  * NELQUBAT_STACK_BYTES is more than any was seen to take.
  *
- * Threads: calls that share no memory may run at the same time. While a step,
- * a start or a restore runs, no other thread may read or write the memory that
- * it was lent: a row changes byte by byte, and one that is read meanwhile may be
- * blended. A screen gets a copy, made by the reading thread between two calls:
+ * Threads: calls that share no memory may run at the same time. While a step, a
+ * run, a start or a restore is under way, no other thread may read or write the
+ * memory that it was lent: a row changes byte by byte, and one that is read
+ * meanwhile may be blended. A screen gets a copy, made by the reading thread
+ * between two calls; a run's ceiling says how many packets it waits for at most:
  *
  *   a = nelqubat_step(...);
  *   if (the row at k is on the screen) {
@@ -50,10 +62,12 @@
 extern "C" {
 #endif
 
-/* Raised with every change of a call, of what the parts of an answer mean or of
- * a layout, and not where a rule of the feed lets other messages in;
- * nelqubat_is_version() asks the library for its own. */
-#define NELQUBAT_VERSION 1
+/* Raised with every new call and every change of a call, of what the parts of an
+ * answer mean or of a layout, and not where a rule of the feed lets other
+ * messages in; nelqubat_is_version() asks the library for its own. 2 is 1 with
+ * nelqubat_run, which brought NELQUBAT_CEILING and refusal 27: a program for 1
+ * needs no change, only to be built anew. */
+#define NELQUBAT_VERSION 2
 
 /* Sizes, in bytes. */
 enum {
@@ -68,11 +82,12 @@ enum {
     NELQUBAT_PACKET_BYTES = 258,   /* the longest packet, its length included */
     NELQUBAT_LINE_BYTES = 80,      /* more than any line of the listing */
     NELQUBAT_SESSION_BYTES = 10,
-    NELQUBAT_STACK_BYTES = 4096    /* more stack than a call was seen to take */
+    NELQUBAT_STACK_BYTES = 4096,   /* more stack than a call was seen to take */
+    NELQUBAT_MAX_PACKETS = 1000    /* the highest ceiling of a run, in packets */
 };
 
 /* Why a call is refused. 1 to 6 and 10 to 16 come from a packet and stand in
- * the handle from then on; 20 to 26 are about the call itself. */
+ * the handle from then on; 20 to 27 are about the call itself. */
 enum {
     NELQUBAT_DONE = 0,
     NELQUBAT_REFUSED_LENGTH = 1,          /* a packet's length is 0 or over 256 */
@@ -94,13 +109,14 @@ enum {
     NELQUBAT_REFUSED_HEAD = 23,           /* a block's number, count, version or next number */
     NELQUBAT_REFUSED_CONTENTS = 24,       /* contents break the row or block rules */
     NELQUBAT_REFUSED_SHORT = 25,          /* output memory too short */
-    NELQUBAT_REFUSED_RECORD = 26          /* no record, or it breaks its field rules */
+    NELQUBAT_REFUSED_RECORD = 26,         /* no record, or it breaks its field rules */
+    NELQUBAT_REFUSED_CEILING = 27         /* a run's ceiling is over 1,000 packets */
 };
 
 /* One plain phrase for each number of refusal. */
 static inline const char *nelqubat_refusal_name(unsigned refusal)
 {
-    static const char *const names[27] = {
+    static const char *const names[28] = {
         "done", "packet length is 0 or over 256", "packet letter is not known",
         "packet in the wrong place", "packet has the wrong form",
         "login for another session or number", "no message number is left", 0, 0, 0,
@@ -110,12 +126,13 @@ static inline const char *nelqubat_refusal_name(unsigned refusal)
         "table is full", 0, 0, 0, "memory has the wrong length or is no handle",
         "image length is wrong", "block check is wrong", "block head is wrong",
         "contents break the row or block rules", "output memory is too short",
-        "record breaks its field rules"};
-    const char *name = refusal < 27 ? names[refusal] : 0;
+        "record breaks its field rules", "ceiling is over 1,000 packets"};
+    const char *name = refusal < 28 ? names[refusal] : 0;
     return name ? name : "no refusal has this number";
 }
 
-/* What a step answers. */
+/* What a step answers. A run stops with NELQUBAT_MORE, NELQUBAT_ENDED,
+ * NELQUBAT_REFUSED or NELQUBAT_CEILING. */
 enum {
     NELQUBAT_MORE = 0,      /* more bytes are wanted; the piece is used up */
     NELQUBAT_LOGIN = 1,     /* login accepted: event memory has number and session */
@@ -124,8 +141,9 @@ enum {
     NELQUBAT_HEARTBEAT = 4,
     NELQUBAT_END = 5,       /* end of session */
     NELQUBAT_SKIPPED = 6,   /* a packet that carries nothing for the reader */
-    NELQUBAT_ENDED = 7,     /* ended before this call */
-    NELQUBAT_REFUSED = 8
+    NELQUBAT_ENDED = 7,     /* ended before this call, or within this run */
+    NELQUBAT_REFUSED = 8,
+    NELQUBAT_CEILING = 9    /* of a run alone: as many packets as it may finish */
 };
 
 /* The parts of an answer. `kind` and `taken` are those of a step, `written`
@@ -170,6 +188,29 @@ static inline size_t nelqubat_found_at(uint32_t answer)
     return (size_t)(answer >> 8) - 1;
 }
 
+/* The parts of a run's answer, which has 64 bits: the refusal, why the run
+ * stopped, how many packets it finished, and how many bytes it took. */
+
+static inline unsigned nelqubat_run_refusal(uint64_t answer)
+{
+    return (unsigned)(answer & 0xFF);
+}
+
+static inline unsigned nelqubat_run_why(uint64_t answer)
+{
+    return (unsigned)(answer >> 8 & 0xFF);
+}
+
+static inline unsigned nelqubat_run_finished(uint64_t answer)
+{
+    return (unsigned)(answer >> 16 & 0xFFFF);
+}
+
+static inline size_t nelqubat_run_taken(uint64_t answer)
+{
+    return (size_t)(answer >> 32);
+}
+
 /* The version of the library that is linked. */
 uint32_t nelqubat_version(void);
 
@@ -206,6 +247,28 @@ uint32_t nelqubat_step(uint8_t *handle, size_t handle_n,
                        uint8_t *table, size_t table_n,
                        const uint8_t *piece, size_t piece_n,
                        uint8_t *event, size_t event_n);
+
+/* Takes bytes from the piece by steps, until as many packets are finished as the
+ * ceiling says, 0 to NELQUBAT_MAX_PACKETS, and tells no events.
+ * Before each step it stops if the reader has ended or refused, else at the
+ * ceiling; a step that wants more stops it too. So a login that is rejected and
+ * an end of session are finished packets, and the run then stopped because it
+ * ended, at its ceiling too; ceiling 0 takes nothing.
+ * Answer: refusal, why it stopped, the count of packets finished, which are the
+ * accepted ones, and the count of bytes taken. Table and handle are as its steps
+ * leave them. `more` takes the whole piece. A packet that is refused with 1 to 16
+ * changes no row; its bytes are taken, it is not finished, those before it stay,
+ * and the refusal stands. A reader that has refused or ended answers so again,
+ * at ceiling 0 too, with nothing taken and nothing finished.
+ * 20, for either memory or a handle that breaks a limit, comes before all else,
+ * and then 27, for a ceiling over 1,000: nothing changes, nothing is taken or
+ * finished.
+ * Where more is wanted, the held bytes stand at the front of their places in the
+ * handle, and the rest of the places stay as they were; any other answer leaves
+ * all the places. */
+uint64_t nelqubat_run(uint8_t *handle, size_t handle_n,
+                      uint8_t *table, size_t table_n,
+                      const uint8_t *piece, size_t piece_n, uint32_t ceiling);
 
 /* Writes the saved table, 512 bytes for each block, to the front of `out`.
  * Answer: the count written, or 20 (handle, table, limits), 24 (the rows or

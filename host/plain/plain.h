@@ -22,6 +22,7 @@ enum {
     PLAIN_PACKET_BYTES = 258,  /* the longest packet, its length included */
     PLAIN_MESSAGE_BYTES = 63,  /* the longest message, a directory */
     PLAIN_SESSION_BYTES = 10,
+    PLAIN_MAX_PACKETS = 1000,  /* the highest ceiling of a run */
     PLAIN_LISTING_BYTES = 9502 /* the longest listing */
 };
 
@@ -139,12 +140,28 @@ struct plain_answer {
     struct plain_message message;         /* message */
 };
 
+/* Why a run stopped. */
+enum plain_why { PLAIN_RAN_OUT, PLAIN_RAN_ENDED, PLAIN_RAN_REFUSED, PLAIN_RAN_CEILING };
+
+/* A run's answer. */
+struct plain_ran {
+    enum plain_why why;
+    uint32_t refusal;  /* 0 unless refused */
+    uint32_t finished; /* packets accepted */
+    size_t taken;
+};
+
 /* Makes the handle fresh and fills the table with zeros: 0 or 20. */
 int plain_start(struct plain_reader *r, uint8_t *table, size_t table_len);
 
 /* Takes bytes from the piece up to the end of one packet. */
 void plain_step(struct plain_reader *r, uint8_t *table, size_t table_len,
                 const uint8_t *piece, size_t n, struct plain_answer *out);
+
+/* Steps until `ceiling` packets are finished, and tells no events. It stops
+ * earlier where the reader has ended or refused, or wants more. */
+struct plain_ran plain_run(struct plain_reader *r, uint8_t *table, size_t table_len,
+                           const uint8_t *piece, size_t n, uint32_t ceiling);
 
 /* Writes the saved table: 0, 20, 24 or 25. `written` is 0 on a refusal. */
 int plain_save(const struct plain_reader *r, const uint8_t *table,

@@ -96,6 +96,7 @@ static const uint8_t day[] = HEARTBEAT LOGIN EVENT("O") DIRECTORY(ID7, "Y")
 enum { DAY_BYTES = sizeof day - 1, DAY_PACKETS = 27 };
 
 void test_reading(void);
+void test_runs(void);
 void test_messages(void);
 void test_images(void);
 void test_generators(void);

@@ -9,7 +9,13 @@
     image = reader.save()
     later = nelqubat.Reader.restore(image)
 
-What a call refuses is raised as Refused, with its number in document 01. Prices are whole numbers of ten-thousandths of a dollar.
+Where no events are wanted, a piece is read by runs of so many packets:
+
+    for ran in reader.runs(piece, 200):
+        show(reader.rows())
+
+What a call refuses is raised as Refused, with its number in document 01; a packet that a run refuses is told in its answer.
+Prices are whole numbers of ten-thousandths of a dollar.
 The library is the shared object that NELQUBAT_SO names, or libnelqubat.so beside this file or in target/host, where
 `host/run python` builds it (x86-64).
 """
@@ -18,11 +24,12 @@ import ctypes
 import os
 from typing import NamedTuple, Optional
 
-VERSION = 1
+VERSION = 2
 HANDLE_BYTES, TABLE_BYTES, RECORD_BYTES = 305, 31744, 112
 ROW_BYTES, IMAGE_BYTES, LINE_BYTES, MESSAGE_BYTES = 124, 33280, 80, 63
 PIECE_BYTES = 65536
-KINDS = ("more", "login", "rejected", "message", "heartbeat", "end", "skipped", "ended", "refused")
+MAX_PACKETS = 1000
+KINDS = ("more", "login", "rejected", "message", "heartbeat", "end", "skipped", "ended", "refused", "ceiling")
 REFUSALS = {
     1: "packet length is 0 or over 256", 2: "packet letter is not known", 3: "packet in the wrong place",
     4: "packet has the wrong form", 5: "login for another session or number", 6: "no message number is left",
@@ -30,7 +37,7 @@ REFUSALS = {
     13: "no row has this id", 14: "instrument does not trade", 15: "directory changes a fixed field", 16: "table is full",
     20: "memory has the wrong length or is no handle", 21: "image length is wrong", 22: "block check is wrong",
     23: "block head is wrong", 24: "contents break the row or block rules", 25: "output memory is too short",
-    26: "record breaks its field rules"}
+    26: "record breaks its field rules", 27: "ceiling is over 1,000 packets"}
 
 
 class Refused(Exception):
@@ -163,6 +170,15 @@ class Event(NamedTuple):
     reason: int = 0
 
 
+class Ran(NamedTuple):
+    """What a run did: why it stopped (more, ended, refused or ceiling), packets finished, bytes taken, a packet's refusal or 0."""
+
+    why: str
+    finished: int
+    taken: int
+    refusal: int = 0
+
+
 def _directory(b):
     return Directory(b._name("symbol"), b.year, b.month, b.day, b.strike, b._letter("type"), b._name("underlying"),
                      b._letter("closing"), b._letter("tradable"), b._letter("variation"), bytes(b.reserved))
@@ -190,8 +206,8 @@ def _find_library():
     return os.environ.get("NELQUBAT_SO") or next((p for p in places if os.path.exists(p)), "libnelqubat.so")
 
 
-# How many memories each call is lent, a pointer and a count for each. A line also has its number before the last, and a find the id
-# behind them.
+# How many memories each call is lent, a pointer and a count for each. A line also has its number before the last, and behind them
+# a find has the id and a run its ceiling.
 _LENT = {"start": 2, "step": 4, "save": 3, "restore": 3, "read": 2, "write": 2}
 
 
@@ -205,6 +221,8 @@ def _load():
     library.nelqubat_line.restype = ctypes.c_uint32
     library.nelqubat_find.argtypes = memory * 2 + [ctypes.c_uint32]
     library.nelqubat_find.restype = ctypes.c_uint32
+    library.nelqubat_run.argtypes = memory * 3 + [ctypes.c_uint32]
+    library.nelqubat_run.restype = ctypes.c_uint64
     library.nelqubat_version.restype = ctypes.c_uint32
     if library.nelqubat_version() != VERSION:
         raise ImportError(f"the library is of version {library.nelqubat_version()}, this module of {VERSION}")
@@ -289,6 +307,35 @@ class Reader:
             if kind in ("more", "ended"):
                 return
             yield self._tell(kind)
+
+    def run(self, piece, ceiling=MAX_PACKETS):
+        """Reads a piece of the session until so many packets are finished, and tells no events; its answer is a Ran.
+
+        What is not taken of the piece is to be given again. Raises Refused for a ceiling over 1,000, but not for a refused packet.
+        """
+        memory, count = _lent(piece)
+        return self._run(memory, 0, count, ceiling)
+
+    def runs(self, piece, ceiling=MAX_PACKETS):
+        """Runs through a piece, one after another as they are asked for, until one stops for another reason than its ceiling.
+
+        A loop that is left early leaves the rest of the piece unread. With ceiling 0 there is one run, which takes nothing.
+        """
+        memory, count = _lent(piece)
+        at, why = 0, "ceiling"
+        while why == "ceiling":
+            ran = self._run(memory, at, count, ceiling)
+            at, why = at + ran.taken, ran.why if ceiling else ""
+            yield ran
+
+    def _run(self, memory, at, count, ceiling):
+        if not 0 <= ceiling < 1 << 32:
+            raise OverflowError(f"{ceiling} is no ceiling of 32 bits")
+        answer = _library.nelqubat_run(*self._both, ctypes.byref(memory, at), count - at, ceiling)
+        refusal = answer & 0xFF
+        if refusal >= 20:
+            raise Refused(refusal)
+        return Ran(KINDS[answer >> 8 & 0xFF], answer >> 16 & 0xFFFF, answer >> 32, refusal)
 
     def _tell(self, kind):
         data = bytes(self._event)

@@ -69,6 +69,7 @@ class Layouts(unittest.TestCase):
     def test_sizes(self):
         for name in ("HANDLE", "TABLE", "RECORD", "ROW", "IMAGE", "LINE", "MESSAGE"):
             self.assertEqual(getattr(nelqubat, name + "_BYTES"), constants()[name + "_BYTES"], name)
+        self.assertEqual(nelqubat.MAX_PACKETS, constants()["MAX_PACKETS"])
         for structure, size in ((nelqubat.RowBytes, 124), (nelqubat.RecordBytes, 112), (nelqubat.HandleBytes, 305)):
             self.assertEqual(nelqubat.ctypes.sizeof(structure), size)
 
@@ -146,6 +147,47 @@ class Sessions(unittest.TestCase):
             list(again.feed(session[at:]))
             self.assertTrue(again.ended)
             self.assertEqual(again.listing().encode(), text(SAMPLES, "whole.txt"))
+
+    def test_runs(self):
+        session = text(SAMPLES, "whole.soup")
+        events = sum(1 for _ in nelqubat.Reader().feed(session))
+        for ceiling in (1, 2, 7, events - 1, events, events + 1, 1000):
+            reader = nelqubat.Reader()
+            runs = list(reader.runs(session, ceiling))
+            self.assertEqual(sum(ran.finished for ran in runs), events)
+            self.assertEqual(sum(ran.taken for ran in runs), len(session))
+            self.assertEqual([ran.why for ran in runs], ["ceiling"] * (len(runs) - 1) + ["ended"])
+            self.assertEqual([ran.finished for ran in runs[:-1]], [ceiling] * (len(runs) - 1))
+            self.assertEqual(reader.listing().encode(), text(SAMPLES, "whole.txt"))
+            self.assertEqual(reader.run(session, 5), nelqubat.Ran("ended", 0, 0))
+
+    def test_run_stops(self):
+        heartbeat, cut = b"\x00\x01H", b"\x00\x04+a"
+        reader = nelqubat.Reader()
+        self.assertEqual(reader.run(heartbeat * 3, 0), nelqubat.Ran("ceiling", 0, 0))
+        self.assertEqual(list(reader.runs(heartbeat * 3, 0)), [nelqubat.Ran("ceiling", 0, 0)])
+        self.assertEqual(reader.run(heartbeat * 3, 2), nelqubat.Ran("ceiling", 2, 6))
+        self.assertEqual(reader.run(heartbeat * 1001), nelqubat.Ran("ceiling", 1000, 3000))
+        self.assertEqual(reader.run(heartbeat + cut), nelqubat.Ran("more", 1, 7))
+        self.assertEqual(reader.run(b""), nelqubat.Ran("more", 0, 0))
+        self.assertEqual(reader.run(b"bc" + heartbeat + b"\x00\x02JA", 3), nelqubat.Ran("ended", 3, 9))
+
+    def test_run_refused(self):
+        reader = nelqubat.Reader()
+        runs = list(reader.runs(text(SAMPLES, "fault.soup"), 50))
+        self.assertEqual((runs[-1].why, runs[-1].refusal, reader.refusal), ("refused", 12, 12))
+        self.assertEqual(reader.listing().encode(), text(SAMPLES, "fault.txt"))
+        self.assertEqual(reader.run(b"\x00\x01H", 0), nelqubat.Ran("refused", 0, 0, 12))
+        for ceiling in (1001, 65537, 2 ** 32 - 1):
+            with self.assertRaises(nelqubat.Refused) as caught:
+                reader.run(b"\x00\x01H", ceiling)
+            self.assertEqual(caught.exception.number, 27)
+        for ceiling in (-1, 2 ** 32):
+            self.assertRaises(OverflowError, reader.run, b"", ceiling)
+        reader._handle[42] = 2
+        with self.assertRaises(nelqubat.Refused) as caught:
+            reader.run(b"", 1001)
+        self.assertEqual(caught.exception.number, 20)
 
     def test_images_refused(self):
         for image, number in ((b"", 21), (bytes(511), 21), (b"\x01" * 512, 22)):
