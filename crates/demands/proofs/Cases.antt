@@ -9,7 +9,7 @@ use lib.Dec.{eqb}
 use lib.ListN.{length}
 use Rattle.field.specs.Bytes.{part, overlay, value, digits}
 use Rattle.field.specs.Text.{every}
-use Rattle.message.specs.Layout.{values, keepsAll}
+use Rattle.message.specs.Layout.{priceFrom, values, keepsAll}
 use Rattle.message.specs.Feed.{letterAmong, fieldsRead, letterRead, bytesRead}
 use Rattle.message.specs.Letters.{listed, letters}
 use Rattle.message.specs.Message.{readOf}
@@ -35,7 +35,7 @@ use Rattle.demands.specs.Cases.{calls, answered, Case, smallSet}
 
 -- THEOREM: C1 to C12, with table memory of the right length
 pub small-set : (t : List ℕ) → length t ≡ tableSize → map (λ (c : Case). answered t (c .question)) smallSet ≡ map (λ (c : Case). c .answer) smallSet
-unfolding calls stepAll withinLimits fits holdsUnfinished unfinished standing stepOf frame framed value soupBinTCP packetOf entryOf packetTable deliver readOf bytesRead letterRead fieldsRead letters letterAmong values keepsAll listed part digits saveAll headers.withinLimits saveOf headerKeeps isFresh every boardKeeps rowsKeep sizeFor weighted checkOf headBytes sealed blockOf pagesFor blocksFor versionFor headFor sessionBytes boardBytes firstBody bodyOf savedBlock blocks imageOf overlay
+unfolding calls stepAll withinLimits fits holdsUnfinished unfinished standing stepOf frame framed value soupBinTCP packetOf entryOf packetTable deliver readOf bytesRead letterRead fieldsRead letters letterAmong values keepsAll priceFrom listed part digits saveAll headers.withinLimits saveOf headerKeeps isFresh every boardKeeps rowsKeep sizeFor weighted checkOf headBytes sealed blockOf pagesFor blocksFor versionFor headFor sessionBytes boardBytes firstBody bodyOf savedBlock blocks imageOf overlay
 small-set t long =
     let e : eqb (length t) tableSize ≡ true = eq-eqb (length t) tableSize long in
     rw e (rw e)

@@ -1,4 +1,5 @@
 pub mod Applied
+pub mod Quoted
 pub mod View
 pub mod Kept
 pub mod Names

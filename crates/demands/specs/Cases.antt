@@ -6,6 +6,7 @@ use mathlib.Core.List.{List, [], _∷_, _++_}
 use lib.Dec.{eqb}
 use lib.ListN.{length, replicate}
 use Rattle.field.specs.Bytes.{part}
+use Rattle.message.specs.Layout.{amount}
 use Rattle.message.specs.Message as messages
 use Rattle.message.specs.Message.{readOf}
 use Rattle.message.specs.declared.Message.the-variants as message
@@ -89,14 +90,14 @@ timeIn (answer.Is (message.LongSide m)) = m .stamp .time
 timeIn (answer.Is (message.EndOfReplay m)) = 0
 timeIn (answer.Refused r) = 0
 
--- the price of a side that was given in pennies, as its row keeps it
+-- the price of a side that was given in pennies, as the number that its row keeps, 0 for none
 abbrev pub priceIn : answers.Answer → ℕ
 priceIn (answer.Is (message.SystemEvent m)) = 0
 priceIn (answer.Is (message.Directory m)) = 0
 priceIn (answer.Is (message.TradingAction m)) = 0
 priceIn (answer.Is (message.ShortQuote m)) = 0
 priceIn (answer.Is (message.LongQuote m)) = 0
-priceIn (answer.Is (message.ShortSide m)) = widened (m .numbers) .price
+priceIn (answer.Is (message.ShortSide m)) = amount (widened (m .numbers) .price)
 priceIn (answer.Is (message.LongSide m)) = 0
 priceIn (answer.Is (message.EndOfReplay m)) = 0
 priceIn (answer.Refused r) = 0

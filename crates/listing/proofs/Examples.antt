@@ -3,12 +3,12 @@
 use mathlib.Core.Path.{_≡_, refl}
 use mathlib.Core.List.{List, [], _∷_, _++_}
 use Prim.Native.Nat.{ℕ}
-use lib.ListN.{replicate}
+use lib.ListN.{replicate, set}
 use Rattle.field.specs.Bytes.{part, value, digits}
 use Rattle.field.specs.Decimal.{chars, digitChars, digitCount, digitCountIn}
-use Rattle.message.specs.Layout.{values}
+use Rattle.message.specs.Layout.{priceFrom, values}
 use Rattle.row.specs.Fields.{idOf}
-use Rattle.listing.specs.Lines.{nextLine, dollars, stateText, sideText, rowLine, lastLine}
+use Rattle.listing.specs.Lines.{nextLine, dollars, priceText, stateText, sideText, rowLine, lastLine}
 use Rattle.listing.specs.declared.Ending.the-variants.{RanOut, Ended, Refused}
 
 -- `next 4`
@@ -23,8 +23,13 @@ seven =
 
 -- `7 T 1.2500 -`
 row-7 : rowLine seven ≡ 55 ∷ 32 ∷ 84 ∷ 32 ∷ 49 ∷ 46 ∷ 50 ∷ 53 ∷ 48 ∷ 48 ∷ 32 ∷ 45 ∷ 10 ∷ []
-unfolding rowLine idOf values stateText sideText dollars chars digitChars digitCount digitCountIn digits value part
+unfolding priceFrom rowLine idOf values stateText sideText priceText dollars chars digitChars digitCount digitCountIn digits value part
 row-7 = refl
+
+-- the same row with the ask seen too, at no price: `7 T 1.2500 none` (W-206)
+row-none : rowLine (set seven 54 3) ≡ 55 ∷ 32 ∷ 84 ∷ 32 ∷ 49 ∷ 46 ∷ 50 ∷ 53 ∷ 48 ∷ 48 ∷ 32 ∷ 110 ∷ 111 ∷ 110 ∷ 101 ∷ 10 ∷ []
+unfolding priceFrom rowLine idOf values stateText sideText priceText dollars chars digitChars digitCount digitCountIn digits value part
+row-none = refl
 
 -- `ok`, `end`, `refused 12`
 ok : lastLine RanOut ≡ 111 ∷ 107 ∷ 10 ∷ []

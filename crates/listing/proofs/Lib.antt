@@ -1,3 +1,4 @@
 pub mod Endings
 pub mod Puts
+pub mod Sides
 mod Examples

@@ -13,11 +13,13 @@ use Rattle.field.specs.Bytes.{part, overlay, digits, bytesBe}
 use Rattle.field.specs.Decimal.{chars, digitChars, digitCount}
 use Rattle.field.proofs.Parts.{overlay-next, overlay-length, part-whole}
 use Rattle.field.proofs.Decimals.{chars-length}
+use Rattle.message.specs.declared.Price.{Price}
+use Rattle.message.specs.declared.Price.the-variants.{Above, None}
 use Rattle.message.specs.declared.Side.{Side}
 use Rattle.message.specs.declared.Side.the-variants.{Bid, Ask}
 use Rattle.row.specs.Fields.{rowSize, idOf, stateOf, sidesOf, priceOf, hasSeen}
 use Rattle.table.specs.Memory.{rowsFit, row}
-use Rattle.listing.specs.Lines.{okWord, endWord, refusedWord, lineEnd, nextLine, dash, dollars, stateText, sideText, rowLine, lastLine, lineIn, lineSize, noLine, Short, shownOf}
+use Rattle.listing.specs.Lines.{noneWord, okWord, endWord, refusedWord, lineEnd, nextLine, dash, dollars, priceText, stateText, sideText, rowLine, lastLine, lineIn, lineSize, noLine, Short, shownOf}
 use Rattle.listing.specs.declared.Text.{Text}
 use Rattle.listing.specs.declared.Shown.{Shown}
 use Rattle.listing.specs.declared.Shown.the-variants.{Line, Past, Unfit}
@@ -75,6 +77,15 @@ dollars-put xs at price {point} {us} {vs} {zs} h p f g =
     = put-then us point (46 ∷ []) (digitChars 4 price) 1 4 (omega arith) (put-byte us point 46 (lit< tt) f) (g, (omega arith, omega arith)) in
     put-then xs at (chars (price / 10_000)) (46 ∷ digitChars 4 price) 20 5 h p tail
 
+module _ (xs : List ℕ) (at : ℕ) (price : Price) where
+  pub above-put : (n : ℕ) {r : ℕ} {zs : List ℕ} → price ≡ Above n → Put xs at (dollars n) zs r 25 → Put xs at (priceText price) zs r 25
+  unfolding priceText
+  above-put n e p = rw e p
+
+  pub none-put : {zs : List ℕ} → price ≡ None → zs ≡ overlay xs at (part noneWord 0 4) → Put xs at (priceText price) zs (at + 4) 25
+  unfolding priceText
+  none-put e p = rw e (p ∙ ap (overlay xs at) (part-whole noneWord 4 refl), (refl, omega arith))
+
 -- ---- a row
 
 pub mark-none : (state : ℕ) → state ≡ 0 → dash ≡ cond (eqb state 0) dash state
@@ -94,14 +105,15 @@ state-put xs at r {state} {mark} {us} {zs} h b e m f g =
 
 module _ (xs : List ℕ) (at : ℕ) (side : Side) (r : List ℕ) {sides : ℕ} {seen : Bool} {us : List ℕ} (h : at + 26 ≤ length xs) (e : sides ≡ sidesOf r)
     (s : seen ≡ hasSeen side sides) (f : us ≡ overlay xs at (bytesBe 1 32)) where
-  side-text : (y : Bool) → seen ≡ y → sideText side r ≡ 32 ∷ cond y (dollars (priceOf side r)) (dash ∷ [])
+  side-text : (y : Bool) → seen ≡ y → sideText side r ≡ 32 ∷ cond y (priceText (priceOf side r)) (dash ∷ [])
   unfolding sideText
   side-text y i = rw (← e, ← s, i)
 
-  pub side-put : {price q : ℕ} {zs : List ℕ} → seen ≡ true → price ≡ priceOf side r → Put us (at + 1) (dollars price) zs q 25 → Put xs at (sideText side r) zs q 26
+  pub side-put : {price : Price} {q : ℕ} {zs : List ℕ} → seen ≡ true → price ≡ priceOf side r → Put us (at + 1) (priceText price) zs q 25
+      → Put xs at (sideText side r) zs q 26
   side-put {price} {q} {zs} y p g =
-      put-as xs at (put-then xs at (32 ∷ []) (dollars price) 1 25 h (put-byte xs at 32 (lit< tt) f) g)
-      (ap (λ (x : ℕ). 32 ∷ dollars x) p ∙ sym (side-text true y)) refl (omega arith)
+      put-as xs at (put-then xs at (32 ∷ []) (priceText price) 1 25 h (put-byte xs at 32 (lit< tt) f) g)
+      (ap (λ (x : Price). 32 ∷ priceText x) p ∙ sym (side-text true y)) refl (omega arith)
 
   pub unseen-put : {zs : List ℕ} → seen ≡ false → zs ≡ overlay us (at + 1) (bytesBe 1 45) → Put xs at (sideText side r) zs (at + 2) 26
   unseen-put {zs} y g =

@@ -7,6 +7,8 @@ use lib.Dec.{eqb, leb}
 use lib.ListN.{length, replicate}
 use Rattle.field.specs.Bytes.{overlay}
 use Rattle.field.specs.Decimal.{chars, digitChars}
+use Rattle.message.specs.declared.Price.{Price}
+use Rattle.message.specs.declared.Price.the-variants.{Above, None}
 use Rattle.message.specs.declared.Side.{Side}
 use Rattle.message.specs.declared.Side.the-variants.{Bid, Ask}
 use Rattle.row.specs.Fields.{idOf, stateOf, sidesOf, priceOf, hasSeen}
@@ -22,6 +24,10 @@ use Rattle.listing.specs.declared.Ending.the-variants.{RanOut, Ended, Re
 -- `next `
 abbrev pub nextWord : List ℕ
 nextWord = 110 ∷ 101 ∷ 120 ∷ 116 ∷ 32 ∷ []
+
+-- `none`
+abbrev pub noneWord : List ℕ
+noneWord = 110 ∷ 111 ∷ 110 ∷ 101 ∷ []
 
 -- `ok`
 abbrev pub okWord : List ℕ
@@ -43,7 +49,7 @@ lineEnd = 10 ∷ []
 unfoldable pub nextLine : ℕ → List ℕ
 nextLine next = nextWord ++ (chars next ++ lineEnd)
 
--- ---- a row: id, state or `-`, bid, ask, an unseen side as `-`
+-- ---- a row: id, state or `-`, bid, ask; a seen side with no price as `none` (W-206), an unseen side as `-`
 
 abbrev pub dash : ℕ
 dash = 45
@@ -52,11 +58,15 @@ dash = 45
 unfoldable pub dollars : ℕ → List ℕ
 dollars price = chars (price / 10_000) ++ (46 ∷ digitChars 4 price)
 
+unfoldable pub priceText : Price → List ℕ
+priceText (Above n) = dollars n
+priceText None = noneWord
+
 unfoldable pub stateText : List ℕ → List ℕ
 stateText r = 32 ∷ cond (eqb (stateOf r) 0) dash (stateOf r) ∷ []
 
 unfoldable pub sideText : Side → List ℕ → List ℕ
-sideText side r = 32 ∷ cond (hasSeen side (sidesOf r)) (dollars (priceOf side r)) (dash ∷ [])
+sideText side r = 32 ∷ cond (hasSeen side (sidesOf r)) (priceText (priceOf side r)) (dash ∷ [])
 
 unfoldable pub rowLine : List ℕ → List ℕ
 rowLine r = chars (idOf r) ++ (stateText r ++ (sideText Bid r ++ (sideText Ask r ++ lineEnd)))

@@ -1,4 +1,5 @@
 // The listing's text, a line at a time.
+use message::Price;
 use message::Side;
 use row::fields;
 ghost use mathlib.Core.Path.{_≡_};
@@ -11,7 +12,7 @@ ghost use Rattle.field.specs.Bytes.{overlay};
 ghost use Rattle.field.specs.Decimal.{chars};
 ghost use Rattle.row.specs.Fields.{rowSize};
 ghost use Rattle.table.specs.Memory.{Fitting};
-ghost use Rattle.listing.specs.Lines.{endingOf, lineEnd, nextLine, dash, dollars, stateText, sideText, rowLine, lastLine, lineIn, lineSize, Short, shownOf};
+ghost use Rattle.listing.specs.Lines.{endingOf, lineEnd, nextLine, dash, dollars, priceText, stateText, sideText, rowLine, lastLine, lineIn, lineSize, Short, shownOf};
 
 // No line is longer.
 pub const LINE_SIZE: usize = 80;
@@ -76,6 +77,21 @@ fn put_dollars(out: &mut [u8], at: usize, price: u32) -> usize
     point + 5
 }
 
+// `none` where there is no price, which is not `-`, a side that was never seen.
+fn put_price(out: &mut [u8], at: usize, price: Price) -> usize
+    requires { ⌜ at + 25 ≤ length (now out) ⌝ }
+    ensures { λ r. ⌜ now (out .exit) ≡ overlay (now (out .entry)) at (priceText price) ⌝ }
+    ensures { λ r. ⌜ (r ≡ at + length (priceText price)) × (r ≤ at + 25) ⌝ }
+{
+    match price {
+        Price::Above(n) => put_dollars(out, at, n),
+        Price::None => {
+            field::copy(b"none", 0, 4, out, at);
+            at + 4
+        }
+    }
+}
+
 fn state_mark(state: u8) -> u8
     ensures { λ r. ⌜ r ≡ cond (eqb state 0) dash state ⌝ }
 {
@@ -105,7 +121,7 @@ fn put_side(out: &mut [u8], at: usize, row: &[u8], side: Side) -> usize
     let price = fields::price(row, side);
     field::write1(out, at, b' ');
     if seen {
-        return put_dollars(out, at + 1, price);
+        return put_price(out, at + 1, price);
     }
     field::write1(out, at + 1, b'-');
     at + 2

@@ -1,16 +1,22 @@
 -- The definitions compute on messages.
 -- Assumes nothing.
 use mathlib.Core.Path.{_≡_, refl}
-use mathlib.Core.List.{List, [], _∷_}
+use mathlib.Core.List.{List, [], _∷_, _++_}
 use Prim.Native.Nat.{ℕ, _^_, _<_}
 use native.Mathlib.Omega.{arith}
+use lib.ListN.{replicate}
 use Rattle.field.specs.Bytes.{part, value, digits}
-use Rattle.message.specs.Layout.{num, numberAt, binary, row, values, keepsAll, bytesFor, tiled}
+use Rattle.message.specs.Layout.{priceFrom, num, numberAt, binary, row, values, keepsAll, bytesFor, tiled}
 use Rattle.message.specs.Feed.{Letter, letterAmong, fieldsRead, letterRead, bytesRead}
 use Rattle.message.specs.Letters.{anything, listed, letters, noTexts}
-use Rattle.message.specs.Message.{accepted, refused, readOf, bytesOf}
+use Rattle.message.specs.Message.{accepted, refused, readOf, bytesOf, keeps, outcome, writeOf}
 use Rattle.message.specs.declared.Message.{Message}
 use Rattle.message.specs.declared.Message.the-variants as message
+use Rattle.message.specs.declared.ShortPrice.{ShortPrice}
+use Rattle.message.specs.declared.ShortPrice.the-variants.{Above, None}
+use Rattle.message.specs.declared.Side.the-variants.{Bid}
+use Rattle.message.specs.declared.Written.the-variants.{Unwritten}
+use Rattle.message.specs.declared.WriteRefusal.the-variants.{BrokenRecord}
 use Rattle.message.specs.declared.Refusal.{Refusal}
 use Rattle.message.specs.declared.Refusal.the-variants.{UnknownLetter, WrongLength, BadField}
 use Rattle.message.proofs.Feeds.{written-read}
@@ -42,6 +48,38 @@ unknown-letter = refl
 one-short : readOf (83 ∷ 0 ∷ 7 ∷ 0 ∷ 0 ∷ 0 ∷ 0 ∷ 0 ∷ 0 ∷ 0 ∷ 0 ∷ []) ≡ refused WrongLength
 unfolding readOf bytesRead letterRead letters letterAmong
 one-short = refl
+
+-- a bid for id 7: of 125 pennies, and of none
+bid : ShortPrice → Message
+bid p =
+    message.ShortSide
+    (record {
+      stamp = record { tracking = 0; time = 0 };
+      id = 7;
+      condition = 32;
+      side = Bid;
+      numbers = record { market = 0; price = p; size = 0; customer = 0; professional = 0 };
+    })
+
+bidBytes : ℕ → List ℕ
+bidBytes pennies = 98 ∷ (replicate 13 0 ++ (7 ∷ 32 ∷ 0 ∷ 0 ∷ 0 ∷ pennies ∷ replicate 6 0))
+
+read-bid : readOf (bidBytes 125) ≡ accepted (bid (Above 125)) noTexts
+unfolding bid bidBytes readOf bytesRead letterRead fieldsRead letters letterAmong values keepsAll priceFrom listed part value
+read-bid = refl
+
+read-none : readOf (bidBytes 0) ≡ accepted (bid None) noTexts
+unfolding bid bidBytes readOf bytesRead letterRead fieldsRead letters letterAmong values keepsAll priceFrom listed part value
+read-none = refl
+
+-- zero held as a price above zero is not written, to output of any length, though its bytes would be those of none
+zero-broken : (out : List ℕ) → writeOf (bid (Above 0)) noTexts out ≡ outcome (Unwritten BrokenRecord) out
+unfolding bid writeOf keeps keepsAll listed
+zero-broken out = refl
+
+same-bytes : bytesOf (bid (Above 0)) noTexts ≡ bytesOf (bid None) noTexts
+unfolding bid bytesOf bytesFor digits
+same-bytes = refl
 
 -- another feed is another list: here of one letter, T, whose record is its one number
 data Heard : Type 0 where

@@ -9,7 +9,7 @@ use borrow.Author.Tests.{eqb-true, leb-true}
 use lib.Dec.{eqb, leb, lit<}
 use lib.ListN.{length, take, drop, length-append, drop-of-length-le, take-append-drop}
 use lib.Seq.{take-at, drop-at, drop-drop}
-use Rattle.field.specs.Bytes.{part, Bytes}
+use Rattle.field.specs.Bytes.{part, be, bytesBe, Bytes}
 use Rattle.field.specs.Limits.{numberInRange, highestNumber}
 use Rattle.field.specs.Decimal.{numberBeforeSpaces, charsThenSpaces}
 use Rattle.field.specs.declared.decimal.Number.{Number}
@@ -18,7 +18,8 @@ use Rattle.field.proofs.Parts.{part-length, part-none, part-split, part-part}
 use Rattle.field.proofs.Numbers.{digits-length, digits-value, value-digits, part-bytes}
 use Rattle.field.proofs.Bools.{both-left, both-right}
 use Rattle.field.proofs.Decimals.{before-of, of-before, before-length}
-use Rattle.message.specs.Layout.{Value, num, raw, Rule, binary, decimal, text, bytes, Row, orZero, valueIn, bytesIn, holds, values, keepsAll, bytesFor, tiled, from, FitsIn, Fit}
+use Rattle.message.specs.Layout.{priceFrom, amount, isPrice, Value, num, raw, priced, Rule, binary, decimal, text, bytes, price, Row, orZero, valueIn, bytesIn, holds, values, keepsAll, bytesFor, tiled, from, FitsIn, Fit, numberRule, numbered}
+use Rattle.message.proofs.Amounts.{amount-from, from-is-price, from-amount}
 
 -- ---- one field
 
@@ -29,29 +30,51 @@ pub never : {A : Type 0} → false ≡ true → A
 never e = let z : _≡_ {A = ℕ} 0 1 = cc in absurd (omega arith)
 
 -- a value that fits its field and keeps its rule is read back from its bytes
-value-back : (r : Rule) (w : ℕ) (v : Value) → FitsIn r w v → holds r v ≡ true → valueIn r (bytesIn r w v) ≡ v
+pub value-back : (r : Rule) (w : ℕ) (v : Value) → FitsIn r w v → holds r v ≡ true → valueIn r (bytesIn r w v) ≡ v
 value-back (binary p) w (num n) f h = ap num (value-digits 256 (lit< tt) w n f)
 value-back (binary p) w (raw b) f h = absurd f
+value-back (binary p) w (priced x) f h = absurd f
 value-back decimal w (num n) f h = ap (λ (x : Number). num (orZero x)) (before-of w n (in-range n h .0) (in-range n h .1))
 value-back decimal w (raw b) f h = absurd f
+value-back decimal w (priced x) f h = absurd f
 value-back text w (num n) f h = absurd f
 value-back text w (raw b) f h = refl
+value-back text w (priced x) f h = absurd f
 value-back bytes w (num n) f h = absurd f
 value-back bytes w (raw b) f h = refl
+value-back bytes w (priced x) f h = absurd f
+value-back (price p) w (num n) f h = absurd f
+value-back (price p) w (raw b) f h = absurd f
+value-back (price p) w (priced x) f h =
+    ap priced (ap priceFrom (value-digits 256 (lit< tt) w (amount x) f) ∙ from-amount x (both-left (isPrice x) (p (amount x)) h))
 
 pub bytes-length : (r : Rule) (w : ℕ) (v : Value) → FitsIn r w v → length (bytesIn r w v) ≡ w
 bytes-length (binary p) w (num n) f = digits-length 256 w n
 bytes-length (binary p) w (raw b) f = absurd f
+bytes-length (binary p) w (priced x) f = absurd f
 bytes-length decimal w (num n) f = before-length w n f
 bytes-length decimal w (raw b) f = absurd f
+bytes-length decimal w (priced x) f = absurd f
 bytes-length text w (num n) f = absurd f
 bytes-length text w (raw b) f = f
+bytes-length text w (priced x) f = absurd f
 bytes-length bytes w (num n) f = absurd f
 bytes-length bytes w (raw b) f = f
+bytes-length bytes w (priced x) f = absurd f
+bytes-length (price p) w (num n) f = absurd f
+bytes-length (price p) w (raw b) f = absurd f
+bytes-length (price p) w (priced x) f = digits-length 256 w (amount x)
+
+-- the bytes of a number, and of the price that it says
+number-back : (w : ℕ) (b : List ℕ) → length b ≡ w → Bytes b → bytesBe w (be b) ≡ b
+number-back w b e s = rw e at (digits-value 256 (lit< tt) b s)
+
+price-back : (w : ℕ) (b : List ℕ) → length b ≡ w → Bytes b → bytesBe w (amount (priceFrom (be b))) ≡ b
+price-back w b e s = ap (bytesBe w) (amount-from (be b)) ∙ number-back w b e s
 
 -- bytes whose value keeps the rule are that value's bytes
-bytes-back : (r : Rule) (w : ℕ) (b : List ℕ) → length b ≡ w → Bytes b → holds r (valueIn r b) ≡ true → bytesIn r w (valueIn r b) ≡ b
-bytes-back (binary p) w b e s h = rw e at (digits-value 256 (lit< tt) b s)
+pub bytes-back : (r : Rule) (w : ℕ) (b : List ℕ) → length b ≡ w → Bytes b → holds r (valueIn r b) ≡ true → bytesIn r w (valueIn r b) ≡ b
+bytes-back (binary p) w b e s h = number-back w b e s
 bytes-back decimal w b e s h = by (numberBeforeSpaces b) refl h
   where
     by : (x : Number) → numberBeforeSpaces b ≡ x → numberInRange (orZero x) ≡ true → charsThenSpaces w (orZero x) ≡ b
@@ -59,6 +82,15 @@ bytes-back decimal w b e s h = by (numberBeforeSpaces b) refl h
     by Bad i k = never k
 bytes-back text w b e s h = refl
 bytes-back bytes w b e s h = refl
+bytes-back (price p) w b e s h = price-back w b e s
+
+-- the rule of a price that is read is the rule of its number
+rule-as-number : (r : Rule) (f : List ℕ) → holds r (valueIn r f) ≡ holds (numberRule r) (valueIn (numberRule r) f)
+rule-as-number (binary p) f = refl
+rule-as-number decimal f = refl
+rule-as-number text f = refl
+rule-as-number bytes f = refl
+rule-as-number (price p) f = rw (from-is-price (be f), amount-from (be f))
 
 -- ---- the fields of a layout
 
@@ -141,6 +173,12 @@ module _ (rs : List Row) (size : ℕ) (t : tiled 1 rs size ≡ true) where
       → c ∷ bytesFor rs (values rs (c ∷ bs)) ≡ c ∷ bs
   written-back c bs e s h = ap (λ (l : List ℕ). c ∷ l) (fields-back rs (c ∷ bs) 1 size t e s h .1)
 
+-- THEOREM: READING ASKS OF A PRICE WHAT IT ASKS OF THE NUMBER, so that it refuses what it would refuse if prices were numbers
+pub read-as-numbers : (rs : List Row) (bs : List ℕ) → keepsAll rs (values rs bs) ≡ keepsAll (numbered rs) (values (numbered rs) bs)
+unfolding values keepsAll
+read-as-numbers [] bs = refl
+read-as-numbers (r ∷ rs) bs = rw (rule-as-number (r .rule) (part bs (r .at) (r .width)), read-as-numbers rs bs)
+
 -- ---- the rows in a part of the bytes
 
 -- the rows lie in the n bytes from k on
@@ -170,6 +208,7 @@ plain (binary p) = true
 plain decimal = false
 plain text = true
 plain bytes = true
+plain (price p) = true
 
 -- the rows stand one after the other from `at` on
 abbrev pub Spaced : ℕ → List Row → Type 0
@@ -181,10 +220,11 @@ span [] = 0
 span (r ∷ rs) = r .width + span rs
 
 plain-back : (r : Rule) (w : ℕ) (b : List ℕ) → plain r ≡ true → length b ≡ w → Bytes b → bytesIn r w (valueIn r b) ≡ b
-plain-back (binary p) w b h e s = rw e at (digits-value 256 (lit< tt) b s)
+plain-back (binary p) w b h e s = number-back w b e s
 plain-back decimal w b h e s = never h
 plain-back text w b h e s = refl
 plain-back bytes w b h e s = refl
+plain-back (price p) w b h e s = price-back w b e s
 
 -- THE LAW OF FIELDS SIDE BY SIDE: written one after the other they are the bytes that they were read from
 pub fields-run : (rs : List Row) (bs : List ℕ) (at : ℕ) → Spaced at rs → Bytes bs → at + span rs ≤ length bs

@@ -13,8 +13,8 @@ use Rattle.field.proofs.Parts.{part-length, part-whole, part-back, overlay-leng
 use Rattle.field.proofs.Numbers.{digits-length, Lent, lent-bytes}
 use Rattle.field.proofs.Decimals.{before-length, count-most}
 use Rattle.field.proofs.Writes.{Piece, piece, run-joined, carried-run}
-use Rattle.message.specs.Layout.{bytesFor, values}
-use Rattle.message.specs.Letters.{stampRows, stampFields, systemEventRows, systemEventFields, instrumentRows, instrumentFields, directoryRows, directoryFields, quoteRows, quoteFields, shortNumbersRows, shortNumbersFields, longNumbersRows, longNumbersFields, longNumbersOf, shortQuoteRows, shortQuoteFields, longQuoteRows, longQuoteFields, shortSideCode, shortSideRows, shortSideFields, longSideCode, longSideRows, longSideFields, endOfReplayRows, endOfReplayFields, entrySize, systemEventLetter, directoryLetter, shortQuoteLetter, longQuoteLetter, shortSideLetter, longSideLetter, endOfReplayLetter}
+use Rattle.message.specs.Layout.{amount, bytesFor, values}
+use Rattle.message.specs.Letters.{stampRows, stampFields, systemEventRows, systemEventFields, instrumentRows, instrumentFields, directoryRows, directoryFields, quoteRows, quoteFields, longPrice, shortNumbersRows, shortNumbersFields, longNumbersRows, longNumbersFields, longNumbersOf, shortQuoteRows, shortQuoteFields, longQuoteRows, longQuoteFields, shortSideCode, shortSideRows, shortSideFields, longSideCode, longSideRows, longSideFields, endOfReplayRows, endOfReplayFields, entrySize, systemEventLetter, directoryLetter, shortQuoteLetter, longQuoteLetter, shortSideLetter, longSideLetter, endOfReplayLetter}
 use Rattle.message.proofs.Layouts.{fields-run}
 use Rattle.message.specs.declared.Stamp.{Stamp}
 use Rattle.message.specs.declared.ShortNumbers.{ShortNumbers}
@@ -59,19 +59,19 @@ five-put w xs at a b c d e {us} {vs} {ws} {ys} {zs} h p q r s u =
     run-joined xs at (piece w (bytesBe w a)) (piece w (bytesBe w b) ∷ piece w (bytesBe w c) ∷ piece w (bytesBe w d) ∷ piece w (bytesBe w e) ∷ [])
     (l a, (l b, (l c, (l d, (l e, tt))))) h p (vs, q, (ws, r, (ys, s, (zs, u, refl))))
 
-pub short-numbers-put : (xs : List ℕ) (at : ℕ) (n : ShortNumbers) {us vs ws ys zs : List ℕ} → at + 10 ≤ length xs
-    → us ≡ overlay xs at (bytesBe 2 (n .market)) → vs ≡ overlay us (at + 2) (bytesBe 2 (n .price)) → ws ≡ overlay vs (at + 4) (bytesBe 2 (n .size))
+pub short-numbers-put : (xs : List ℕ) (at : ℕ) (n : ShortNumbers) {p : ℕ} {us vs ws ys zs : List ℕ} → p ≡ amount (longPrice (n .price)) → at + 10 ≤ length xs
+    → us ≡ overlay xs at (bytesBe 2 (n .market)) → vs ≡ overlay us (at + 2) (bytesBe 2 p) → ws ≡ overlay vs (at + 4) (bytesBe 2 (n .size))
     → ys ≡ overlay ws (at + 6) (bytesBe 2 (n .customer)) → zs ≡ overlay ys (at + 8) (bytesBe 2 (n .professional))
     → zs ≡ overlay xs at (bytesFor (shortNumbersRows at) (shortNumbersFields n))
 unfolding bytesFor
-short-numbers-put xs at n h = five-put 2 xs at (n .market) (n .price) (n .size) (n .customer) (n .professional) h
+short-numbers-put xs at n {p} is h = rw (← is) (five-put 2 xs at (n .market) p (n .size) (n .customer) (n .professional) h)
 
-pub long-numbers-put : (xs : List ℕ) (at : ℕ) (n : LongNumbers) {us vs ws ys zs : List ℕ} → at + 20 ≤ length xs
-    → us ≡ overlay xs at (bytesBe 4 (n .market)) → vs ≡ overlay us (at + 4) (bytesBe 4 (n .price)) → ws ≡ overlay vs (at + 8) (bytesBe 4 (n .size))
+pub long-numbers-put : (xs : List ℕ) (at : ℕ) (n : LongNumbers) {p : ℕ} {us vs ws ys zs : List ℕ} → p ≡ amount (n .price) → at + 20 ≤ length xs
+    → us ≡ overlay xs at (bytesBe 4 (n .market)) → vs ≡ overlay us (at + 4) (bytesBe 4 p) → ws ≡ overlay vs (at + 8) (bytesBe 4 (n .size))
     → ys ≡ overlay ws (at + 12) (bytesBe 4 (n .customer)) → zs ≡ overlay ys (at + 16) (bytesBe 4 (n .professional))
     → zs ≡ overlay xs at (bytesFor (longNumbersRows at) (longNumbersFields n))
 unfolding bytesFor
-long-numbers-put xs at n h = five-put 4 xs at (n .market) (n .price) (n .size) (n .customer) (n .professional) h
+long-numbers-put xs at n {p} is h = rw (← is) (five-put 4 xs at (n .market) p (n .size) (n .customer) (n .professional) h)
 
 -- carried from other bytes, with no number taken
 pub long-carried : (xs bs : List ℕ) (at from : ℕ) {us vs zs : List ℕ} → Lent bs → from + 20 ≤ length bs → at + 20 ≤ length xs

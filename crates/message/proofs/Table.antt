@@ -11,7 +11,7 @@ use lib.ListN.{length, drop, getD, drop-of-length-le}
 use lib.Seq.{drop-cons}
 use Rattle.message.specs.Layout.{values, tiled}
 use Rattle.message.specs.Feed.{Letter, letterAmong, Sized}
-use Rattle.message.specs.Letters.{Content, letters, letterIn, letterFor, unlisted, listed, fieldsOf, shortSideCode, shortSideLetter, longSideCode, longSideLetter}
+use Rattle.message.specs.Letters.{Content, letters, letterIn, letterFor, unlisted, listed, fieldsOf, shortQuoteRows, shortQuoteOf, shortQuoteFields, shortSideRows, shortSideOf, shortSideFields, shortSideCode, shortSideLetter, longSideCode, longSideLetter}
 use Rattle.message.specs.Message.{readFields, textsWith}
 use Rattle.message.specs.declared.Message.{Message}
 use Rattle.message.specs.declared.Message.the-variants as message
@@ -19,6 +19,7 @@ use Rattle.message.specs.declared.Side.{Side}
 use Rattle.message.specs.declared.Side.the-variants.{Bid, Ask}
 use Rattle.message.specs.declared.Texts.{Texts}
 use Rattle.message.specs.declared.Reading.{Reading}
+use Rattle.message.proofs.Amounts.{long-back, short-back}
 use Rattle.message.proofs.Feeds.{found, allTiled}
 
 infixr 5 _also_
@@ -75,6 +76,15 @@ pub letters-tiled : allTiled letters ≡ true
 unfolding allTiled letters tiled
 letters-tiled = refl
 
+-- the prices of a short form go both ways too
+short-quote-again : (bs : List ℕ) → shortQuoteFields (shortQuoteOf (values shortQuoteRows bs)) ≡ values shortQuoteRows bs
+unfolding values
+short-quote-again bs = simp long-back
+
+short-side-again : (s : Side) (bs : List ℕ) → shortSideFields (shortSideOf s (values shortSideRows bs)) ≡ values shortSideRows bs
+unfolding values
+short-side-again s bs = simp long-back
+
 -- a letter makes a message of its own, whose fields are those that it was made of
 pub record Makes (l : Letter Content) (bs : List ℕ) : Type 0 where
   pub own : letterFor (l .makes (values (l .rows) bs) .0) ≡ l
@@ -83,7 +93,18 @@ pub record Makes (l : Letter Content) (bs : List ℕ) : Type 0 where
 pub found-makes : (c : ℕ) (bs : List ℕ) → (letterIn letters c .size ≡ 0 → ⊥) → Makes (letterIn letters c) bs
 unfolding letters values
 found-makes c bs =
-    found unlisted (λ (l : Letter Content). (l .size ≡ 0 → ⊥) → Makes l bs) c letters (λ h. absurd (h refl)) (search tt depth 60)
+    found unlisted (λ (l : Letter Content). (l .size ≡ 0 → ⊥) → Makes l bs) c letters (λ h. absurd (h refl))
+    ((λ e h. record { own = refl; fields = refl })
+    also (λ e h. record { own = refl; fields = refl })
+    also (λ e h. record { own = refl; fields = refl })
+    also (λ e h. record { own = refl; fields = short-quote-again bs })
+    also (λ e h. record { own = refl; fields = refl })
+    also (λ e h. record { own = refl; fields = short-side-again Bid bs })
+    also (λ e h. record { own = refl; fields = short-side-again Ask bs })
+    also (λ e h. record { own = refl; fields = refl })
+    also (λ e h. record { own = refl; fields = refl })
+    also (λ e h. record { own = refl; fields = refl })
+    also tt)
 
 -- the letter of a message is listed, and makes the message of its fields
 pub record Listed (m : Message) (t : Texts) : Type 0 where
@@ -101,8 +122,10 @@ unfolding letters letterAmong
 is-listed-letter (message.SystemEvent m) t = record { own = refl; some = λ e. omega arith; made = refl }
 is-listed-letter (message.Directory m) t = record { own = refl; some = λ e. omega arith; made = refl }
 is-listed-letter (message.TradingAction m) t = record { own = refl; some = λ e. omega arith; made = refl }
-is-listed-letter (message.ShortQuote m) t = record { own = refl; some = λ e. omega arith; made = refl }
+is-listed-letter (message.ShortQuote m) t =
+    record { own = refl; some = λ e. omega arith; made = rw (short-back (m .bid .price), short-back (m .ask .price)) }
 is-listed-letter (message.LongQuote m) t = record { own = refl; some = λ e. omega arith; made = refl }
-is-listed-letter (message.ShortSide m) t = record { own = side-listed (m .side) .0; some = λ e. omega arith; made = refl }
+is-listed-letter (message.ShortSide m) t =
+    record { own = side-listed (m .side) .0; some = λ e. omega arith; made = rw (short-back (m .numbers .price)) }
 is-listed-letter (message.LongSide m) t = record { own = side-listed (m .side) .1; some = λ e. omega arith; made = refl }
 is-listed-letter (message.EndOfReplay m) t = record { own = refl; some = λ e. omega arith; made = refl }

@@ -13,13 +13,13 @@ use Rattle.field.specs.Bytes.{part, be}
 use Rattle.field.specs.Limits.{timeInRange, numberInRange, priceInRange}
 use Rattle.field.specs.Text.{within, isText}
 use Rattle.message.specs.Layout.{Value, numberAt, values, keepsAll}
-use Rattle.message.specs.Letters.{Content, unlisted, letters, letterIn, listed, conditions, eventCodes, optionTypes, closings, tradables, variations, states, entryRows, entrySize, endOfReplayRows, endOfReplayOf}
+use Rattle.message.specs.Letters.{Content, unlisted, letters, letterIn, listed, conditions, eventCodes, optionTypes, closings, tradables, variations, states, entryRows, entrySize, endOfReplayRows, endOfReplayOf, shortQuoteRows, longQuoteRows, shortSideRows, longSideRows}
 use Rattle.message.specs.declared.EndOfReplay.{EndOfReplay}
 use Rattle.message.specs.Message.{refused, readFields, readAs, readOf}
 use Rattle.message.specs.Feed.{Letter, Sized, letterAmong, fieldsRead, letterRead, bytesRead}
 use Rattle.message.specs.Test.{tested, quoteLetters, quoteLength, pricesKeep, entryKeeps}
 use Rattle.message.specs.declared.Refusal.the-variants.{UnknownLetter, WrongLength, BadField}
-use Rattle.message.proofs.Layouts.{rowsIn, values-in-part}
+use Rattle.message.proofs.Layouts.{read-as-numbers, rowsIn, values-in-part}
 use Rattle.message.proofs.Feeds.{found}
 use Rattle.message.proofs.Table.{room}
 use Rattle.message.proofs.Ways.{entry-values}
@@ -73,12 +73,12 @@ pub quotes : (bs : List ℕ) (c : ℕ) → (quoteLength c ≡ 0 → ⊥) → Quo
 unfolding quoteLength quoteLetters letters letterAmong values keepsAll pricesKeep
 quotes bs c =
     found unlisted (λ (l : Letter Content). (l .size ≡ 0 → ⊥) → Quotes bs c l) c quoteLetters (λ h. absurd (h refl))
-    ((λ e h. rw (← e) (record { own = refl; head = omega arith; one = λ z. omega arith; two = λ z. omega arith; rules = simp and-true }))
-    also (λ e h. rw (← e) (record { own = refl; head = omega arith; one = λ z. omega arith; two = λ z. omega arith; rules = simp and-true }))
-    also (λ e h. rw (← e) (record { own = refl; head = omega arith; one = λ z. omega arith; two = λ z. omega arith; rules = simp and-true }))
-    also (λ e h. rw (← e) (record { own = refl; head = omega arith; one = λ z. omega arith; two = λ z. omega arith; rules = simp and-true }))
-    also (λ e h. rw (← e) (record { own = refl; head = omega arith; one = λ z. omega arith; two = λ z. omega arith; rules = simp and-true }))
-    also (λ e h. rw (← e) (record { own = refl; head = omega arith; one = λ z. omega arith; two = λ z. omega arith; rules = simp and-true }))
+    ((λ e h. rw (← e) (record { own = refl; head = omega arith; one = λ z. omega arith; two = λ z. omega arith; rules = read-as-numbers shortQuoteRows bs ∙ simp and-true }))
+    also (λ e h. rw (← e) (record { own = refl; head = omega arith; one = λ z. omega arith; two = λ z. omega arith; rules = read-as-numbers longQuoteRows bs ∙ simp and-true }))
+    also (λ e h. rw (← e) (record { own = refl; head = omega arith; one = λ z. omega arith; two = λ z. omega arith; rules = read-as-numbers shortSideRows bs ∙ simp and-true }))
+    also (λ e h. rw (← e) (record { own = refl; head = omega arith; one = λ z. omega arith; two = λ z. omega arith; rules = read-as-numbers shortSideRows bs ∙ simp and-true }))
+    also (λ e h. rw (← e) (record { own = refl; head = omega arith; one = λ z. omega arith; two = λ z. omega arith; rules = read-as-numbers longSideRows bs ∙ simp and-true }))
+    also (λ e h. rw (← e) (record { own = refl; head = omega arith; one = λ z. omega arith; two = λ z. omega arith; rules = read-as-numbers longSideRows bs ∙ simp and-true }))
     also tt)
 
 -- a quote's prices

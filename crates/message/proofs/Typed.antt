@@ -8,7 +8,7 @@ use native.Mathlib.Omega.{arith}
 use borrow.Author.Tests.{eqb-true, leb-true}
 use lib.Dec.{eqb, leb}
 use lib.ListN.{length, length-append, length-replicate}
-use Rattle.field.specs.Bytes.{part, Bytes}
+use Rattle.field.specs.Bytes.{part, be, Bytes}
 use Rattle.field.specs.Limits.{numberInRange}
 use Rattle.field.specs.Text.{within, every}
 use Rattle.field.specs.Decimal.{numberBeforeSpaces, charsThenSpaces, chars, digitCount}
@@ -18,7 +18,7 @@ use Rattle.field.proofs.Bools.{both-left, both-right}
 use Rattle.field.proofs.Numbers.{part-below}
 use Rattle.field.proofs.Parts.{part-length}
 use Rattle.field.proofs.Decimals.{of-before, chars-length}
-use Rattle.message.specs.Layout.{Rule, binary, decimal, text, bytes, Row, orZero, valueIn, holds, values, keepsAll, FitsIn, Fit}
+use Rattle.message.specs.Layout.{Rule, binary, decimal, text, bytes, price, Row, orZero, valueIn, holds, values, keepsAll, FitsIn, Fit}
 use Rattle.message.specs.Feed.{Letter}
 use Rattle.message.specs.Letters.{Content, listed, letters, letterIn, letterFor, unlisted}
 use Rattle.message.specs.Message.{accepted, refused, told, readOf, keeps, Typed}
@@ -26,6 +26,7 @@ use Rattle.message.specs.declared.Message.{Message}
 use Rattle.message.specs.declared.Texts.{Texts}
 use Rattle.message.specs.declared.Answer.the-variants as answer
 use Rattle.message.specs.declared.Reading.{Reading}
+use Rattle.message.proofs.Amounts.{amount-from}
 use Rattle.message.proofs.Layouts.{never}
 use Rattle.message.proofs.Feeds.{found, Verdict, empty, unknown, long, field, whole}
 use Rattle.message.proofs.Table.{found-makes}
@@ -56,6 +57,7 @@ value-fits r bs s l h = by (r .rule) h
     by decimal k = decimal-fits f (r .width) (part-length bs (r .at) (r .width) l) (numberBeforeSpaces f) refl k
     by text k = part-length bs (r .at) (r .width) l
     by bytes k = part-length bs (r .at) (r .width) l
+    by (price p) k = rw (amount-from (be f)) (part-below bs (r .at) (r .width) s l)
 
 -- values that keep their rules fit the rows that they were read from
 pub values-fit : (rs : List Row) (bs : List ℕ) (n : ℕ) → Bytes bs → n ≤ length bs → inside n rs ≡ true → keepsAll rs (values rs bs) ≡ true → Fit rs (values rs bs)

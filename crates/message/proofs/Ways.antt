@@ -9,11 +9,12 @@ use borrow.Author.Tests.{le-leb, lt-leb}
 use lib.Dec.{eqb}
 use lib.ListN.{length, getD, replicate}
 use Rattle.field.specs.Bytes.{part, overlay}
-use Rattle.field.specs.Limits.{timeInRange, priceInRange}
+use Rattle.field.specs.Limits.{timeInRange}
 use Rattle.field.specs.Text.{isText}
 use Rattle.field.specs.Decimal.{numberBeforeSpaces}
 use Rattle.field.specs.declared.decimal.Number.{Number}
 use Rattle.field.specs.declared.decimal.Number.the-variants as number
+use Rattle.field.proofs.Bools.{both-left, both-right}
 use Rattle.field.proofs.Parts.{part-length, part-whole, overlay-whole}
 use Rattle.message.specs.Layout.{Value, Row, values, keepsAll}
 use Rattle.message.specs.Feed.{Letter, Sized, fieldsRead, letterRead}
@@ -171,7 +172,7 @@ pub directory-keeps : (m : Directory) (t : Texts) {a b : Bool} → a ≡ timeInR
 unfolding keepsAll
 directory-keeps m t p q = rw (p, q)
 
--- the rules of a quote: its time, its condition, and the prices of four bytes
+-- the rules of a quote: its time, its condition, and those of its prices
 pub quote-head : {x y t d : ℕ} {a : Bool} → t ≡ x → d ≡ y → a ≡ timeInRange t && listed conditions d → a ≡ timeInRange x && listed conditions y
 quote-head {x} {d = d} is-time is-condition p =
     p ∙ ap (λ v. timeInRange v && listed conditions d) is-time ∙ ap (λ v. timeInRange x && listed conditions v) is-condition
@@ -180,10 +181,20 @@ module _ (x y : ℕ) {a : Bool} (head : a ≡ timeInRange x && listed conditions
   pub head-kept : (k : Bool) → k ≡ timeInRange x && (listed conditions y && true) → a ≡ k
   head-kept k e = head ∙ sym (simp and-true at e)
 
-  pub side-kept : (k : Bool) (z : ℕ) {u : ℕ} {b : Bool} → k ≡ timeInRange x && (listed conditions y && (priceInRange z && true)) → u ≡ z → b ≡ priceInRange u → a && b ≡ k
-  side-kept k z e is q = rw (head, q, is) (and-assoc (timeInRange x) (listed conditions y) (priceInRange z)) ∙ sym (simp and-true at e)
+  pub side-kept : (k z : Bool) {b : Bool} → k ≡ timeInRange x && (listed conditions y && (z && true)) → b ≡ z → a && b ≡ k
+  side-kept k z e q = rw (head, q) (and-assoc (timeInRange x) (listed conditions y) z) ∙ sym (rw (and-true z) at e)
 
-  pub quote-kept : (k : Bool) (z w : ℕ) {u v : ℕ} {b : Bool} → k ≡ timeInRange x && (listed conditions y && (priceInRange z && (priceInRange w && true)))
-      → u ≡ z → v ≡ w → b ≡ priceInRange u && priceInRange v → a && b ≡ k
-  quote-kept k z w e is as-is q =
-      rw (head, q, is, as-is) (and-assoc (timeInRange x) (listed conditions y) (priceInRange z && priceInRange w)) ∙ sym (simp and-true at e)
+  pub quote-kept : (k z w : Bool) {b : Bool} → k ≡ timeInRange x && (listed conditions y && (z && (w && true))) → b ≡ z && w → a && b ≡ k
+  quote-kept k z w e q = rw (head, q) (and-assoc (timeInRange x) (listed conditions y) (z && w)) ∙ sym (rw (and-true w) at e)
+
+-- and each of them by itself
+pub side-rules : (a b x : Bool) → a && (b && (x && true)) ≡ true → (a ≡ true) × (b ≡ true) × (x ≡ true)
+side-rules a b x e =
+    let r = both-right a (b && (x && true)) e in
+    (both-left a (b && (x && true)) e, both-left b (x && true) r, both-left x true (both-right b (x && true) r))
+
+pub quote-rules : (a b x y : Bool) → a && (b && (x && (y && true))) ≡ true → (a ≡ true) × (b ≡ true) × (x ≡ true) × (y ≡ true)
+quote-rules a b x y e = let r = side-rules b x y (both-right a (b && (x && (y && true))) e) in (both-left a (b && (x && (y && true))) e, r .0, r .1, r .2)
+
+pub both-are : {a b x y : Bool} → a ≡ x → b ≡ y → a && b ≡ x && y
+both-are p q = rw (p, q)

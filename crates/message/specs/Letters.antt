@@ -2,17 +2,22 @@
 -- Byte 0 is the letter; the rows are the fields after it.
 -- Assumes nothing.
 use Prim.Native.Nat.{ℕ, _+_}
+use mathlib.Core.Path.{_≡_}
 use mathlib.Core.Bool.{Bool, true, false, cond}
 use mathlib.Core.List.{List, [], _∷_, _++_}
 use lib.Dec.{eqb}
 use lib.ListN.{drop, replicate}
 use Rattle.field.specs.Limits.{timeInRange, priceInRange}
 use Rattle.field.specs.Text.{within}
-use Rattle.message.specs.Layout.{Value, num, raw, numberAt, bytesAt, binary, decimal, text, bytes, Row, row, from}
+use Rattle.message.specs.Layout.{Value, num, raw, priced, numberAt, bytesAt, priceAt, binary, decimal, text, bytes, price, Row, row, from}
 use Rattle.message.specs.Feed.{Letter, letterAmong}
 use Rattle.message.specs.declared.Stamp.{Stamp}
 use Rattle.message.specs.declared.Side.{Side}
 use Rattle.message.specs.declared.Side.the-variants.{Bid, Ask}
+use Rattle.message.specs.declared.Price.{Price}
+use Rattle.message.specs.declared.Price.the-variants as long
+use Rattle.message.specs.declared.ShortPrice.{ShortPrice}
+use Rattle.message.specs.declared.ShortPrice.the-variants as short
 use Rattle.message.specs.declared.ShortNumbers.{ShortNumbers}
 use Rattle.message.specs.declared.LongNumbers.{LongNumbers}
 use Rattle.message.specs.declared.SystemEvent.{SystemEvent}
@@ -110,11 +115,11 @@ tradingActionRows = stampRows ++ (row 11 4 (binary anything) ∷ row 15 1 (binar
 abbrev pub quoteRows : List Row
 quoteRows = stampRows ++ (row 11 4 (binary anything) ∷ row 15 1 (binary (listed conditions)) ∷ [])
 
--- a side: market order size, price, size, customer, professional; prices of two bytes are pennies
+-- a side: market order size, price, size, customer, professional; prices of two bytes are pennies, and 0 says that there is none
 abbrev pub shortNumbersRows : ℕ → List Row
 shortNumbersRows at =
     row at 2 (binary anything)
-    ∷ row (at + 2) 2 (binary anything)
+    ∷ row (at + 2) 2 (price anything)
     ∷ row (at + 4) 2 (binary anything)
     ∷ row (at + 6) 2 (binary anything)
     ∷ row (at + 8) 2 (binary anything)
@@ -123,7 +128,7 @@ shortNumbersRows at =
 abbrev pub longNumbersRows : ℕ → List Row
 longNumbersRows at =
     row at 4 (binary anything)
-    ∷ row (at + 4) 4 (binary priceInRange)
+    ∷ row (at + 4) 4 (price priceInRange)
     ∷ row (at + 8) 4 (binary anything)
     ∷ row (at + 12) 4 (binary anything)
     ∷ row (at + 16) 4 (binary anything)
@@ -208,31 +213,40 @@ tradingActionOf vs = record { stamp = stampOf vs; id = numberAt vs 2; state = nu
 abbrev pub tradingActionFields : TradingAction → List Value
 tradingActionFields m = stampFields (m .stamp) ++ (num (m .id) ∷ num (m .state) ∷ [])
 
+-- a price as a short side holds it, and back
+abbrev pub shortPrice : Price → ShortPrice
+shortPrice (long.Above n) = short.Above n
+shortPrice long.None = short.None
+
+abbrev pub longPrice : ShortPrice → Price
+longPrice (short.Above n) = long.Above n
+longPrice short.None = long.None
+
 abbrev pub shortNumbersOf : List Value → ShortNumbers
 shortNumbersOf vs =
     record {
       market = numberAt vs 0;
-      price = numberAt vs 1;
+      price = shortPrice (priceAt vs 1);
       size = numberAt vs 2;
       customer = numberAt vs 3;
       professional = numberAt vs 4;
     }
 
 abbrev pub shortNumbersFields : ShortNumbers → List Value
-shortNumbersFields m = num (m .market) ∷ num (m .price) ∷ num (m .size) ∷ num (m .customer) ∷ num (m .professional) ∷ []
+shortNumbersFields m = num (m .market) ∷ priced (longPrice (m .price)) ∷ num (m .size) ∷ num (m .customer) ∷ num (m .professional) ∷ []
 
 abbrev pub longNumbersOf : List Value → LongNumbers
 longNumbersOf vs =
     record {
       market = numberAt vs 0;
-      price = numberAt vs 1;
+      price = priceAt vs 1;
       size = numberAt vs 2;
       customer = numberAt vs 3;
       professional = numberAt vs 4;
     }
 
 abbrev pub longNumbersFields : LongNumbers → List Value
-longNumbersFields m = num (m .market) ∷ num (m .price) ∷ num (m .size) ∷ num (m .customer) ∷ num (m .professional) ∷ []
+longNumbersFields m = num (m .market) ∷ priced (m .price) ∷ num (m .size) ∷ num (m .customer) ∷ num (m .professional) ∷ []
 
 -- the fields of a quote before its sides
 abbrev pub quoteFields : Stamp → ℕ → ℕ → List Value
@@ -309,6 +323,22 @@ fieldsOf (message.EndOfReplay m) t = endOfReplayFields m
 
 abbrev pub noTexts : Texts
 noTexts = record { symbol = replicate 8 0; underlying = replicate 13 0; reserved = replicate 16 0 }
+
+-- the prices that a message holds; a strike is a number
+abbrev pub pricesOf : Message → List Price
+pricesOf (message.SystemEvent m) = []
+pricesOf (message.Directory m) = []
+pricesOf (message.TradingAction m) = []
+pricesOf (message.ShortQuote m) = longPrice (m .bid .price) ∷ longPrice (m .ask .price) ∷ []
+pricesOf (message.LongQuote m) = m .bid .price ∷ m .ask .price ∷ []
+pricesOf (message.ShortSide m) = longPrice (m .numbers .price) ∷ []
+pricesOf (message.LongSide m) = m .numbers .price ∷ []
+pricesOf (message.EndOfReplay m) = []
+
+-- zero is held as a price above zero by none of them
+abbrev pub NoZero : List Price → Type 0
+NoZero [] = Unit
+NoZero (x ∷ xs) = (x ≡ long.Above 0 → ⊥) × NoZero xs
 
 -- ---- THE TEN LETTERS, each with its exact length
 

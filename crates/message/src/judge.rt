@@ -7,7 +7,6 @@ use crate::Refusal;
 use crate::Side;
 use crate::entry;
 use crate::lengths;
-use crate::numbers;
 use crate::rules;
 use crate::take;
 use field::limits;
@@ -81,18 +80,14 @@ fn keep_long_quote(bytes: &[u8]) -> bool
     requires { ⌜ longQuoteLetter .size ≤ length (now bytes) ⌝ }
     ensures { λ r. ⌜ r ≡ keepsAll longQuoteRows (values longQuoteRows (now (bytes .entry))) ⌝ }
 {
-    keep_head(bytes)
-        & rules::keep_prices(
-            numbers::long_price(bytes, 16),
-            numbers::long_price(bytes, 36),
-        )
+    keep_head(bytes) & (limits::price_keeps(bytes, 20) & limits::price_keeps(bytes, 40))
 }
 
 fn keep_long_side(bytes: &[u8]) -> bool
     requires { ⌜ longSideLetter Side.Bid .size ≤ length (now bytes) ⌝ }
     ensures { λ r. ⌜ r ≡ keepsAll longSideRows (values longSideRows (now (bytes .entry))) ⌝ }
 {
-    keep_head(bytes) & limits::price_in_range(numbers::long_price(bytes, 16))
+    keep_head(bytes) & limits::price_keeps(bytes, 20)
 }
 
 fn short_quote(bytes: &[u8]) -> Reading

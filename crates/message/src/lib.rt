@@ -8,6 +8,7 @@ pub mod entry;
 mod judge;
 pub mod lengths;
 pub mod numbers;
+pub mod prices;
 mod put;
 mod rules;
 mod take;
@@ -24,10 +25,22 @@ pub enum Side {
     Ask,
 }
 
+// What a side bids or asks: a price above zero, in ten-thousandths of a dollar, or none. Zero is no price above zero.
+pub enum Price {
+    Above(u32),
+    None,
+}
+
+// The same for a short side, in pennies.
+pub enum ShortPrice {
+    Above(u16),
+    None,
+}
+
 // One side of a quote in two bytes each: the price is in pennies.
 pub struct ShortNumbers {
     pub market: u16,
-    pub price: u16,
+    pub price: ShortPrice,
     pub size: u16,
     pub customer: u16,
     pub professional: u16,
@@ -36,7 +49,7 @@ pub struct ShortNumbers {
 // One side of a quote in four bytes each: the price is in ten-thousandths of a dollar.
 pub struct LongNumbers {
     pub market: u32,
-    pub price: u32,
+    pub price: Price,
     pub size: u32,
     pub customer: u32,
     pub professional: u32,

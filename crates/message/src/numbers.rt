@@ -1,20 +1,13 @@
 // The five numbers of a side: taken from bytes, and put into them.
 use crate::LongNumbers;
 use crate::ShortNumbers;
+use crate::prices;
 ghost use mathlib.Core.Path.{_≡_};
 ghost use Prim.Native.Nat.{_+_, _≤_};
 ghost use lib.ListN.{length};
-ghost use Rattle.field.specs.Bytes.{part, overlay, be};
+ghost use Rattle.field.specs.Bytes.{overlay};
 ghost use Rattle.message.specs.Layout.{values, bytesFor};
 ghost use Rattle.message.specs.Letters.{shortNumbersRows, shortNumbersOf, shortNumbersFields, longNumbersRows, longNumbersOf, longNumbersFields};
-
-// The price of a side that begins at `at`, of four bytes each.
-pub fn long_price(bytes: &[u8], at: usize) -> u32
-    requires { ⌜ at + 20 ≤ length (now bytes) ⌝ }
-    ensures { λ r. ⌜ r ≡ be (part (now (bytes .entry)) (at + 4) 4) ⌝ }
-{
-    field::read4(bytes, at + 4)
-}
 
 pub fn short(bytes: &[u8], at: usize) -> ShortNumbers
     requires { ⌜ at + 10 ≤ length (now bytes) ⌝ }
@@ -22,7 +15,7 @@ pub fn short(bytes: &[u8], at: usize) -> ShortNumbers
 {
     ShortNumbers {
         market: field::read2(bytes, at),
-        price: field::read2(bytes, at + 2),
+        price: prices::short(field::read2(bytes, at + 2)),
         size: field::read2(bytes, at + 4),
         customer: field::read2(bytes, at + 6),
         professional: field::read2(bytes, at + 8),
@@ -35,7 +28,7 @@ pub fn long(bytes: &[u8], at: usize) -> LongNumbers
 {
     LongNumbers {
         market: field::read4(bytes, at),
-        price: long_price(bytes, at),
+        price: prices::long(field::read4(bytes, at + 4)),
         size: field::read4(bytes, at + 8),
         customer: field::read4(bytes, at + 12),
         professional: field::read4(bytes, at + 16),
@@ -46,8 +39,9 @@ pub fn put_short(out: &mut [u8], at: usize, n: ShortNumbers)
     requires { ⌜ at + 10 ≤ length (now out) ⌝ }
     ensures { λ r. ⌜ now (out .exit) ≡ overlay (now (out .entry)) at (bytesFor (shortNumbersRows at) (shortNumbersFields n)) ⌝ }
 {
+    let price = n.price;
     field::write2(out, at, n.market);
-    field::write2(out, at + 2, n.price);
+    field::write2(out, at + 2, prices::pennies(price));
     field::write2(out, at + 4, n.size);
     field::write2(out, at + 6, n.customer);
     field::write2(out, at + 8, n.professional);
@@ -57,8 +51,9 @@ pub fn put_long(out: &mut [u8], at: usize, n: LongNumbers)
     requires { ⌜ at + 20 ≤ length (now out) ⌝ }
     ensures { λ r. ⌜ now (out .exit) ≡ overlay (now (out .entry)) at (bytesFor (longNumbersRows at) (longNumbersFields n)) ⌝ }
 {
+    let price = n.price;
     field::write4(out, at, n.market);
-    field::write4(out, at + 4, n.price);
+    field::write4(out, at + 4, prices::amount(price));
     field::write4(out, at + 8, n.size);
     field::write4(out, at + 12, n.customer);
     field::write4(out, at + 16, n.professional);

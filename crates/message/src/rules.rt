@@ -11,10 +11,11 @@ use crate::Texts;
 use crate::TradingAction;
 use crate::codes;
 use crate::entry;
+use crate::prices;
 use field::limits;
 ghost use mathlib.Core.Path.{_≡_};
 ghost use mathlib.Core.Bool.{_&&_};
-ghost use Rattle.field.specs.Limits.{timeInRange, priceInRange};
+ghost use Rattle.field.specs.Limits.{timeInRange};
 ghost use Rattle.message.specs.Layout.{keepsAll};
 ghost use Rattle.message.specs.Letters.{listed, conditions, systemEventRows, systemEventFields, directoryRows, directoryFields, tradingActionRows, tradingActionFields, shortQuoteRows, shortQuoteFields, longQuoteRows, longQuoteFields, shortSideRows, shortSideFields, longSideRows, longSideFields, endOfReplayRows, endOfReplayFields};
 ghost use Rattle.message.specs.Message.{keeps};
@@ -24,12 +25,6 @@ pub fn keep_head(time: u64, condition: u8) -> bool
     ensures { λ r. ⌜ r ≡ timeInRange time && listed conditions condition ⌝ }
 {
     limits::time_in_range(time) & codes::is_condition(condition)
-}
-
-pub fn keep_prices(bid: u32, ask: u32) -> bool
-    ensures { λ r. ⌜ r ≡ priceInRange bid && priceInRange ask ⌝ }
-{
-    limits::price_in_range(bid) & limits::price_in_range(ask)
 }
 
 pub fn keep_system_event(m: SystemEvent) -> bool
@@ -54,25 +49,31 @@ pub fn keep_trading_action(m: TradingAction) -> bool
 pub fn keep_short_quote(m: ShortQuote) -> bool
     ensures { λ r. ⌜ r ≡ keepsAll shortQuoteRows (shortQuoteFields m) ⌝ }
 {
-    keep_head(m.stamp.time, m.condition)
+    let bid = m.bid;
+    let ask = m.ask;
+    keep_head(m.stamp.time, m.condition) & (prices::keep_short(bid) & prices::keep_short(ask))
 }
 
 pub fn keep_long_quote(m: LongQuote) -> bool
     ensures { λ r. ⌜ r ≡ keepsAll longQuoteRows (longQuoteFields m) ⌝ }
 {
-    keep_head(m.stamp.time, m.condition) & keep_prices(m.bid.price, m.ask.price)
+    let bid = m.bid;
+    let ask = m.ask;
+    keep_head(m.stamp.time, m.condition) & (prices::keep_long(bid) & prices::keep_long(ask))
 }
 
 pub fn keep_short_side(m: ShortSide) -> bool
     ensures { λ r. ⌜ r ≡ keepsAll shortSideRows (shortSideFields m) ⌝ }
 {
-    keep_head(m.stamp.time, m.condition)
+    let numbers = m.numbers;
+    keep_head(m.stamp.time, m.condition) & prices::keep_short(numbers)
 }
 
 pub fn keep_long_side(m: LongSide) -> bool
     ensures { λ r. ⌜ r ≡ keepsAll longSideRows (longSideFields m) ⌝ }
 {
-    keep_head(m.stamp.time, m.condition) & limits::price_in_range(m.numbers.price)
+    let numbers = m.numbers;
+    keep_head(m.stamp.time, m.condition) & prices::keep_long(numbers)
 }
 
 pub fn keep_end_of_replay(m: EndOfReplay) -> bool

@@ -129,4 +129,4 @@ FoundFits Nothing = Unit
 
 -- that the header names too
 abbrev pub hostVersion : ℕ
-hostVersion = 2
+hostVersion = 3

@@ -85,7 +85,7 @@ module _ (memory : List ℕ) (long : length memory ≡ recordSize) (taken : ℕ)
       record {
         answer =
             kind-as 3 (768 + taken * 65_536) (recordBytes (x .message) (x .texts)) (omega arith)
-            (ap (λ (y : Held). messageIn (y .taken) (y .texts)) (take-back (x .message) (x .texts) (f .0))
+            (ap (λ (y : Held). messageIn (y .taken) (y .texts)) (take-back (x .message) (x .texts) (f .0) (f .2))
             ∙ ap (λ (t : Texts). stream.Event (message (said (x .message) t))) (f .1));
         taken = omega arith;
       }

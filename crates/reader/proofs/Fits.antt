@@ -12,6 +12,7 @@ use Rattle.field.specs.Decimal.{numberAfterSpaces}
 use Rattle.field.specs.declared.decimal.Number.{Number}
 use Rattle.field.specs.declared.decimal.Number.the-variants as number
 use Rattle.field.proofs.Parts.{part-length}
+use Rattle.message.specs.Letters.{pricesOf, NoZero}
 use Rattle.message.specs.Message as messages
 use Rattle.message.specs.Message.{accepted, readOf, textsWith}
 use Rattle.message.specs.declared.Message.{Message}
@@ -24,6 +25,7 @@ use Rattle.message.specs.declared.Refusal as messageRefusal
 use Rattle.message.specs.declared.Refusal.the-variants as messageRefusals
 use Rattle.message.proofs.Rounds.{read-write, write-read}
 use Rattle.message.proofs.Typed.{accepted-typed}
+use Rattle.message.proofs.NoZero.{kept-no-zero}
 use Rattle.packet.specs.Frame.{Framed, short, badLength, packet, frame}
 use Rattle.packet.specs.Refusals.{faultNumber}
 use Rattle.packet.specs.Stream as stream
@@ -145,7 +147,8 @@ module _ (n : ℕ) (h : Numbered n) where
 abbrev pub EventFits : Event Said → Type 0
 EventFits (packets.login n session) = (n < 256 ^ 8) × (length session ≡ 10)
 EventFits (packets.rejected reason) = reason < 256 ^ 1
-EventFits (packets.message x) = Roomy (x .message) (x .texts) × (textsWith (x .message) (x .texts) ≡ x .texts)
+EventFits (packets.message x) =
+    Roomy (x .message) (x .texts) × (textsWith (x .message) (x .texts) ≡ x .texts) × NoZero (pricesOf (x .message))
 EventFits packets.heartbeat = Unit
 EventFits packets.end = Unit
 EventFits packets.skipped = Unit
@@ -176,13 +179,13 @@ board-fits b (message.ShortSide m) t w few h f = h
 board-fits b (message.LongSide m) t w few h f = h
 board-fits b (message.EndOfReplay m) t w few h f = record { rows = h .rows; live = f .0; event = h .event }
 
--- a message that is read has room in a record, and no texts but its own
+-- a message that is read has room in a record, no texts but its own, and no zero as a price above zero
 read-fits : (bs : List ℕ) → Bytes bs → (m : Message) (t : Texts) → readOf bs ≡ accepted m t → EventFits (packets.message (said m t))
 read-fits bs b m t e =
     let y = accepted-typed bs b m t e in
     let w = write-read bs b m t e in
     let again : accepted m (textsWith m t) ≡ accepted m t = sym (read-write m t (y .0) (w .1)) ∙ ap readOf (w .0) ∙ e in
-    (roomy m t (y .0) (w .1), ap (λ (r : Reading). r .texts) again)
+    (roomy m t (y .0) (w .1), ap (λ (r : Reading). r .texts) again, kept-no-zero m t (w .1))
 
 abbrev DeliveredFits : Delivered Table Said → Type 0
 DeliveredFits (done x t) = EventFits (packets.message x) × BoardFits (t .board)

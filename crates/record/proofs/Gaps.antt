@@ -12,17 +12,18 @@ use lib.ListN.{length, getD, replicate, length-replicate, getD-replicate, List·
 use Rattle.field.specs.Bytes.{part, same, Bytes}
 use Rattle.field.specs.Text.{every, isZero}
 use Rattle.field.proofs.Bools.{both-left, both-right}
-use Rattle.field.proofs.Numbers.{part-bytes, Lent, lent-bytes}
+use Rattle.field.proofs.Numbers.{Lent, lent-bytes}
 use Rattle.field.proofs.Parts.{part-length, part-at, part-replicate}
 use Rattle.field.proofs.Runs.{every-at, every-replicate}
 use Rattle.field.proofs.Same.{test-same, same-test}
-use Rattle.message.specs.Layout.{Row, values}
+use Rattle.message.specs.Layout.{Row, values, keepsAll}
 use Rattle.message.specs.Letters.{letterIn}
 use Rattle.message.proofs.Layouts.{never}
-use Rattle.message.proofs.Typed.{inside}
+use Rattle.message.proofs.Typed.{inside, values-fit}
 use Rattle.record.specs.Places.{recordSize, letterPlace, highPlaces, recordLetters}
 use Rattle.record.specs.Record.{laid, isOwn, clear}
-use Rattle.record.proofs.Laid.{Plain, Wide, outside, part-kept, laid-own, own-bytes, neither}
+use Rattle.record.proofs.Laid.{outside, part-kept, fit-wide, laid-own, neither}
+use Rattle.record.proofs.Typed.{record-kept}
 
 -- every gap is outside of all the places
 unfoldable pub between : List Row → List Row → Bool
@@ -91,23 +92,13 @@ clear-own (g ∷ gs) rs bs n b f h =
       clear-own gs rs bs n (both-right (outside (g .at) (g .width) rs) (between gs rs) b) (both-right (leb (g .at + g .width) n) (inside n gs) f) h,
     )
 
-values-wide : (rs : List Row) (bs : List ℕ) (n : ℕ) → Plain rs → Bytes bs → n ≤ length bs → inside n rs ≡ true → Wide rs (values rs bs)
-unfolding values inside
-values-wide [] bs n p s l f = tt
-values-wide (r ∷ rs) bs n p s l f =
-    let room : r .at + r .width ≤ n = leb-true (r .at + r .width) n (both-left (leb (r .at + r .width) n) (inside n rs) f) in
-    let long : length (part bs (r .at) (r .width)) ≡ r .width = part-length bs (r .at) (r .width) (omega arith) in (
-      ap length (own-bytes (r .rule) (r .width) (part bs (r .at) (r .width)) (p .0) long (part-bytes bs (r .at) (r .width) s)) ∙ long,
-      values-wide rs bs n (p .1) s l (both-right (leb (r .at + r .width) n) (inside n rs) f),
-    )
-
 both-ways : (a b : Bool) → (a ≡ true → b ≡ true) → (b ≡ true → a ≡ true) → a ≡ b
 both-ways true b f g = sym (f refl)
 both-ways false true f g = g refl
 both-ways false false f g = refl
 
 -- THE LAW OF GAPS
-module _ (rs gs : List Row) (bs : List ℕ) (p : Plain rs) (f : inside recordSize rs ≡ true) (e : inside recordSize gs ≡ true) (b : between gs rs ≡ true)
+module _ (rs gs : List Row) (bs : List ℕ) (p : keepsAll rs (values rs bs) ≡ true) (f : inside recordSize rs ≡ true) (e : inside recordSize gs ≡ true) (b : between gs rs ≡ true)
     (k : covered recordSize gs rs ≡ true) (s : Bytes bs) (l : length bs ≡ recordSize) where
   zeros : List ℕ
   zeros = replicate recordSize 0
@@ -131,7 +122,7 @@ module _ (rs gs : List Row) (bs : List ℕ) (p : Plain rs) (f : inside recordSiz
   zero-part : laid rs (values rs bs) zeros ≡ bs → (i m : ℕ) → outside i m rs ≡ true → part bs i m ≡ part zeros i m
   zero-part q i m o =
       ap (λ (x : List ℕ). part x i m) (sym q)
-      ∙ part-kept rs (values rs bs) zeros recordSize i m (values-wide rs bs recordSize p s (omega arith) f) (omega (arith, zeros-long)) f o
+      ∙ part-kept rs (values rs bs) zeros recordSize i m (fit-wide rs (values rs bs) (values-fit rs bs recordSize s (omega arith) f p)) (omega (arith, zeros-long)) f o
 
   pub clear-same : clear gs bs ≡ same (laid rs (values rs bs) (replicate recordSize 0)) bs
   unfolding zeros
@@ -173,7 +164,6 @@ module _ (bs : List ℕ) where
 
 -- the gaps of a letter's record
 pub record Gaps (rs gs : List Row) : Type 0 where
-  pub plain : Plain rs
   pub places : inside recordSize rs ≡ true
   pub gaps : inside recordSize gs ≡ true
   pub apart : between gs rs ≡ true
@@ -181,7 +171,7 @@ pub record Gaps (rs gs : List Row) : Type 0 where
 
 pub own-arm : (k c : ℕ) (gs : List Row) (bs : List ℕ) {r : Bool} → c ≡ k → Gaps (letterPlace ∷ letterIn recordLetters k .rows) gs → Lent bs → length bs ≡ recordSize
     → r ≡ clear gs bs → r ≡ isOwn c bs
-unfolding isOwn
+unfolding isOwn values keepsAll
 own-arm k c gs bs e g s l p =
     rw e
-    (p ∙ clear-same (letterPlace ∷ letterIn recordLetters k .rows) gs bs (g .plain) (g .places) (g .gaps) (g .apart) (g .all) (lent-bytes bs s) l)
+    (p ∙ clear-same (letterPlace ∷ letterIn recordLetters k .rows) gs bs (record-kept k bs) (g .places) (g .gaps) (g .apart) (g .all) (lent-bytes bs s) l)

@@ -6,14 +6,15 @@ use mathlib.Core.List.{List, [], _∷_}
 use Prim.Native.Nat.{ℕ, _+_, _-_, _≤_, _<_}
 use native.Mathlib.Omega.{arith}
 use borrow.Author.Tests.{leb-true, leb-false}
-use lib.Dec.{leb, lit<}
+use lib.Dec.{leb}
 use lib.ListN.{length, getD}
 use lib.Seq.{ext-getD}
 use Rattle.field.specs.Bytes.{part, overlay, Bytes}
 use Rattle.field.proofs.Bools.{both-left, both-right}
-use Rattle.field.proofs.Numbers.{digits-length, value-digits, digits-value, part-bytes}
+use Rattle.field.proofs.Numbers.{part-bytes}
 use Rattle.field.proofs.Parts.{part-length, part-at, part-before, part-after, part-overlay, overlay-length}
-use Rattle.message.specs.Layout.{Value, num, raw, Rule, binary, decimal, text, bytes, Row, valueIn, bytesIn, values, FitsIn, Fit}
+use Rattle.message.specs.Layout.{Value, Row, valueIn, bytesIn, holds, values, keepsAll, Fit}
+use Rattle.message.proofs.Layouts.{value-back, bytes-length, bytes-back}
 use Rattle.message.proofs.Typed.{inside}
 use Rattle.record.specs.Record.{laid}
 
@@ -82,67 +83,33 @@ part-kept (r ∷ rs) (v ∷ vs) xs n i m w l f o =
 
 -- ---- read back
 
--- every rule but the decimal one writes a value and nothing else
-abbrev PlainRule : Rule → Type 0
-PlainRule (binary p) = Unit
-PlainRule decimal = ⊥
-PlainRule text = Unit
-PlainRule bytes = Unit
+pub fit-wide : (rs : List Row) (vs : List Value) → Fit rs vs → Wide rs vs
+fit-wide [] vs f = tt
+fit-wide (r ∷ rs) [] f = tt
+fit-wide (r ∷ rs) (v ∷ vs) f = (bytes-length (r .rule) (r .width) v (f .0), fit-wide rs vs (f .1))
 
-abbrev pub Plain : List Row → Type 0
-Plain [] = Unit
-Plain (r ∷ rs) = PlainRule (r .rule) × Plain rs
-
-field-back : (r : Rule) (w : ℕ) (v : Value) → PlainRule r → FitsIn r w v → valueIn r (bytesIn r w v) ≡ v
-field-back (binary p) w (num n) q f = ap num (value-digits 256 (lit< tt) w n f)
-field-back (binary p) w (raw b) q f = absurd f
-field-back decimal w v q f = absurd q
-field-back text w (num n) q f = absurd f
-field-back text w (raw b) q f = refl
-field-back bytes w (num n) q f = absurd f
-field-back bytes w (raw b) q f = refl
-
-field-length : (r : Rule) (w : ℕ) (v : Value) → PlainRule r → FitsIn r w v → length (bytesIn r w v) ≡ w
-field-length (binary p) w (num n) q f = digits-length 256 w n
-field-length (binary p) w (raw b) q f = absurd f
-field-length decimal w v q f = absurd q
-field-length text w (num n) q f = absurd f
-field-length text w (raw b) q f = f
-field-length bytes w (num n) q f = absurd f
-field-length bytes w (raw b) q f = f
-
-pub fit-wide : (rs : List Row) (vs : List Value) → Plain rs → Fit rs vs → Wide rs vs
-fit-wide [] vs p f = tt
-fit-wide (r ∷ rs) [] p f = tt
-fit-wide (r ∷ rs) (v ∷ vs) p f = (field-length (r .rule) (r .width) v (p .0) (f .0), fit-wide rs vs (p .1) (f .1))
-
--- VALUES THAT FIT ARE READ BACK from places that do not meet
-pub values-laid : (rs : List Row) (vs : List Value) (xs : List ℕ) (n : ℕ) → Plain rs → Fit rs vs → n ≤ length xs → inside n rs ≡ true → apart rs ≡ true
+-- VALUES THAT FIT AND KEEP THEIR RULES ARE READ BACK from places that do not meet
+pub values-laid : (rs : List Row) (vs : List Value) (xs : List ℕ) (n : ℕ) → keepsAll rs vs ≡ true → Fit rs vs → n ≤ length xs → inside n rs ≡ true → apart rs ≡ true
     → values rs (laid rs vs xs) ≡ vs
-unfolding laid values apart
-values-laid [] [] xs n p f l s a = refl
-values-laid [] (v ∷ vs) xs n p f l s a = absurd f
-values-laid (r ∷ rs) [] xs n p f l s a = absurd f
-values-laid (r ∷ rs) (v ∷ vs) xs n p f l s a =
+unfolding laid values apart keepsAll
+values-laid [] [] xs n k f l s a = refl
+values-laid [] (v ∷ vs) xs n k f l s a = absurd f
+values-laid (r ∷ rs) [] xs n k f l s a = absurd f
+values-laid (r ∷ rs) (v ∷ vs) xs n k f l s a =
     let b = bytesIn (r .rule) (r .width) v in
     let ys = overlay xs (r .at) b in
-    let w : length b ≡ r .width = field-length (r .rule) (r .width) v (p .0) (f .0) in
+    let w : length b ≡ r .width = bytes-length (r .rule) (r .width) v (f .0) in
     let long : n ≤ length ys = still-long r rs b xs n w l s in
     let o : outside (r .at) (r .width) rs ≡ true = both-left (outside (r .at) (r .width) rs) (apart rs) a in
     let first : part (laid rs vs ys) (r .at) (r .width) ≡ b
-    = part-kept rs vs ys n (r .at) (r .width) (fit-wide rs vs (p .1) (f .1)) long (on r rs b xs n w l s) o ∙ one-put r rs b xs n w l s in
-    let again : valueIn (r .rule) b ≡ v = field-back (r .rule) (r .width) v (p .0) (f .0) in
+    = part-kept rs vs ys n (r .at) (r .width) (fit-wide rs vs (f .1)) long (on r rs b xs n w l s) o ∙ one-put r rs b xs n w l s in
+    let again : valueIn (r .rule) b ≡ v = value-back (r .rule) (r .width) v (f .0) (both-left (holds (r .rule) v) (keepsAll rs vs) k) in
     let rest : values rs (laid rs vs ys) ≡ vs
-    = values-laid rs vs ys n (p .1) (f .1) long (on r rs b xs n w l s) (both-right (outside (r .at) (r .width) rs) (apart rs) a) in
+    = values-laid rs vs ys n (both-right (holds (r .rule) v) (keepsAll rs vs) k) (f .1) long (on r rs b xs n w l s)
+    (both-right (outside (r .at) (r .width) rs) (apart rs) a) in
     rw (first, again, rest)
 
 -- ---- put back
-
-pub own-bytes : (r : Rule) (w : ℕ) (b : List ℕ) → PlainRule r → length b ≡ w → Bytes b → bytesIn r w (valueIn r b) ≡ b
-own-bytes (binary p) w b q e s = rw e at (digits-value 256 (lit< tt) b s)
-own-bytes decimal w b q e s = absurd q
-own-bytes text w b q e s = refl
-own-bytes bytes w b q e s = refl
 
 -- one byte of two lists that have a part in common
 byte-in : (xs ys : List ℕ) (at w i : ℕ) → part xs at w ≡ part ys at w → at ≤ i → i < at + w → getD xs i 0 ≡ getD ys i 0
@@ -161,18 +128,21 @@ pub neither : (a b : Bool) → a || b ≡ false → (a ≡ false) × (b ≡ fals
 neither true b e = absurd (let z : _≡_ {A = ℕ} 0 1 = cc in omega arith)
 neither false b e = (refl, e)
 
--- BYTES THAT AGREE OUTSIDE OF THE PLACES ARE PUT BACK by their own values
-pub laid-own : (rs : List Row) (bs xs : List ℕ) (n : ℕ) → Plain rs → Bytes bs → n ≤ length bs → length xs ≡ length bs → inside n rs ≡ true
+-- BYTES THAT AGREE OUTSIDE OF THE PLACES ARE PUT BACK by their own values, which keep their rules
+pub laid-own : (rs : List Row) (bs xs : List ℕ) (n : ℕ) → keepsAll rs (values rs bs) ≡ true → Bytes bs → n ≤ length bs → length xs ≡ length bs → inside n rs ≡ true
     → ((i : ℕ) → outside i 1 rs ≡ true → getD xs i 0 ≡ getD bs i 0) → laid rs (values rs bs) xs ≡ bs
-unfolding laid values outside
-laid-own [] bs xs n p s l e f h = ext-getD 0 xs bs e (λ i k. h i refl)
-laid-own (r ∷ rs) bs xs n p s l e f h =
-    rw (own-bytes (r .rule) (r .width) b (p .0) w (part-bytes bs (r .at) (r .width) s))
-    (laid-own rs bs (overlay xs (r .at) b) n (p .1) s l (overlay-length xs (r .at) b (here r rs b xs n w long f) ∙ e) (on r rs b xs n w long f)
+unfolding laid values outside keepsAll
+laid-own [] bs xs n k s l e f h = ext-getD 0 xs bs e (λ i q. h i refl)
+laid-own (r ∷ rs) bs xs n k s l e f h =
+    rw (bytes-back (r .rule) (r .width) b w (part-bytes bs (r .at) (r .width) s) (both-left (holds (r .rule) v) (keepsAll rs (values rs bs)) k))
+    (laid-own rs bs (overlay xs (r .at) b) n (both-right (holds (r .rule) v) (keepsAll rs (values rs bs)) k) s l (overlay-length xs (r .at) b (here r rs b xs n w long f) ∙ e) (on r rs b xs n w long f)
     (λ i o. by i o (leb (i + 1) (r .at) || leb (r .at + r .width) i) refl))
   where
     b : List ℕ
     b = part bs (r .at) (r .width)
+
+    v : Value
+    v = valueIn (r .rule) b
 
     room : r .at + r .width ≤ n
     room = leb-true (r .at + r .width) n (both-left (leb (r .at + r .width) n) (inside n rs) (inside-is n r rs f))

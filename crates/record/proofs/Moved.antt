@@ -1,48 +1,54 @@
 -- Fields moved from the places of a message's layout to those of a record are the fields laid there.
 -- Assumes nothing.
 use mathlib.Core.Path.{_≡_, refl, sym, ap, _∙_}
-use mathlib.Core.Bool.{Bool, true, false, _&&_}
-use mathlib.Core.List.{List, [], _∷_, _++_}
+use mathlib.Core.Bool.{Bool, true, _&&_}
+use mathlib.Core.List.{List, [], _∷_, _++_, append-nil}
 use Prim.Native.Nat.{ℕ, _+_, _≤_}
+use native.Mathlib.Numerals.{unary-clauses}
 use native.Mathlib.Omega.{arith}
 use borrow.Author.Tests.{leb-true, eqb-true}
-use lib.Dec.{leb, eqb, lit<}
+use lib.Dec.{leb, eqb}
 use lib.ListN.{length, take, drop, getD}
 use Rattle.field.specs.Bytes.{part, overlay, be, digits, bytesBe, Bytes}
 use Rattle.field.specs.Decimal.{charsThenSpaces}
 use Rattle.field.proofs.Bools.{both-left, both-right}
-use Rattle.field.proofs.Parts.{part-length, overlay-length}
-use Rattle.field.proofs.Numbers.{digits-value, part-bytes, Lent, lent-bytes}
+use Rattle.field.proofs.Parts.{overlay-length}
+use Rattle.field.proofs.Numbers.{Lent, lent-bytes, rewrites}
 use Rattle.field.proofs.Writes.{carried-run}
-use Rattle.message.specs.Layout.{Rule, binary, decimal, text, bytes, Row, valueIn, bytesIn, values, bytesFor}
-use Rattle.message.specs.Letters.{letters, letterIn, anything, endOfReplayRows, endOfReplayOf, stampRows, instrumentRows, directoryRows, quoteRows, systemEventRows, shortNumbersRows, longNumbersRows, longNumbersFields, longNumbersOf, shortQuoteRows, longQuoteRows, shortSideRows, longSideRows}
+use Rattle.message.specs.Layout.{Value, num, raw, priced, Rule, binary, decimal, text, bytes, price, Row, valueIn, bytesIn, values, bytesFor}
+use Rattle.message.specs.Letters.{letters, letterIn, endOfReplayRows, endOfReplayOf, stampRows, instrumentRows, directoryRows, quoteRows, systemEventRows, shortNumbersRows, longNumbersRows, longNumbersFields, longNumbersOf, shortQuoteRows, longQuoteRows, shortSideRows, longSideRows}
 use Rattle.message.specs.declared.Side.{Side}
 use Rattle.message.specs.declared.LongNumbers.{LongNumbers}
-use Rattle.message.proofs.Layouts.{plain}
+use Rattle.message.proofs.Layouts.{never, plain, fields-run}
 use Rattle.message.proofs.Puts.{long-numbers-put}
 use Rattle.message.proofs.Typed.{inside}
 use Rattle.record.specs.Places.{recordSize, letterPlace, stampPlaces, instrumentPlaces, directoryPlaces, endOfReplayPlaces, recordLetters, headPlaces, systemEventPlaces, sideAt, shortPlaces, longPlaces, shortQuotePlaces, longQuotePlaces, shortSidePlaces, longSidePlaces}
 use Rattle.record.specs.Record.{laid, laidFrom, laidBack}
 use Rattle.record.proofs.Laid.{laid-length}
 
-clash : {A : Type 0} → false ≡ true → A
-clash e = let z : _≡_ {A = ℕ} 0 1 = cc in absurd (omega arith)
+-- a rule writes a value as it is, but for numbers in characters
+as-it-is : (r : Rule) (w : ℕ) (v : Value) → plain r ≡ true → bytesIn r w v ≡ bytesIn bytes w v
+as-it-is (binary p) w (num n) h = refl
+as-it-is (binary p) w (raw b) h = refl
+as-it-is (binary p) w (priced x) h = refl
+as-it-is decimal w v h = never h
+as-it-is text w (num n) h = refl
+as-it-is text w (raw b) h = refl
+as-it-is text w (priced x) h = refl
+as-it-is bytes w v h = refl
+as-it-is (price p) w (num n) h = refl
+as-it-is (price p) w (raw b) h = refl
+as-it-is (price p) w (priced x) h = refl
 
--- bytes that one rule reads, another writes again; but for numbers in characters
-again : (r p : Rule) (w : ℕ) (b : List ℕ) → plain r ≡ true → plain p ≡ true → length b ≡ w → Bytes b → bytesIn p w (valueIn r b) ≡ b
-again (binary f) (binary g) w b h k e s = rw e at (digits-value 256 (lit< tt) b s)
-again (binary f) decimal w b h k e s = clash k
-again (binary f) text w b h k e s = rw e at (digits-value 256 (lit< tt) b s)
-again (binary f) bytes w b h k e s = rw e at (digits-value 256 (lit< tt) b s)
-again decimal p w b h k e s = clash h
-again text (binary g) w b h k e s = refl
-again text decimal w b h k e s = refl
-again text text w b h k e s = refl
-again text bytes w b h k e s = refl
-again bytes (binary g) w b h k e s = refl
-again bytes decimal w b h k e s = refl
-again bytes text w b h k e s = refl
-again bytes bytes w b h k e s = refl
+-- so bytes that one rule reads, another writes again
+again : (r p : Row) (bs : List ℕ) → plain (r .rule) ≡ true → plain (p .rule) ≡ true → p .width ≡ r .width → Bytes bs → r .at + r .width ≤ length bs
+    → bytesIn (p .rule) (p .width) (valueIn (r .rule) (part bs (r .at) (r .width))) ≡ part bs (r .at) (r .width)
+unfolding values bytesFor
+again r p bs h k e s l =
+    let v = valueIn (r .rule) (part bs (r .at) (r .width)) in
+    let own : bytesIn (r .rule) (r .width) v ≡ part bs (r .at) (r .width)
+    = simp (append-nil, unary-clauses) at (fields-run (r ∷ []) bs (r .at) (refl, h, tt) s (omega arith)) in
+    rw e (as-it-is (p .rule) (r .width) v k ∙ sym (as-it-is (r .rule) (r .width) v h) ∙ own)
 
 -- the fields of a layout and their places elsewhere, of the same widths; the fields lie in n bytes
 abbrev pub Pairs : ℕ → List Row → List Row → Type 0
@@ -63,11 +69,8 @@ laid-moved [] [] bs xs zs t s m = m
 laid-moved [] (p ∷ ps) bs xs zs t s m = m
 laid-moved (r ∷ rs) [] bs xs zs t s m = m
 laid-moved (r ∷ rs) (p ∷ ps) bs xs zs t s m =
-    let b = part bs (r .at) (r .width) in
-    let e : bytesIn (p .rule) (p .width) (valueIn (r .rule) b) ≡ b
-    = again (r .rule) (p .rule) (p .width) b (t .2) (t .3) (part-length bs (r .at) (r .width) (t .0) ∙ sym (t .1)) (part-bytes bs (r .at) (r .width) s) in
     laid-moved rs ps bs (m .0) zs (t .4) s (m .2)
-    ∙ ap (laid ps (values rs bs)) (m .1 ∙ ap (overlay xs (p .at)) (sym e))
+    ∙ ap (laid ps (values rs bs)) (m .1 ∙ ap (overlay xs (p .at)) (sym (again r p bs (t .2) (t .3) (t .1) s (t .0))))
 
 -- the rule of pairs as one computed test
 unfoldable pub paired : ℕ → List Row → List Row → Bool
@@ -140,7 +143,7 @@ short-moved xs bs at from {us} {vs} {ws} {ys} {zs} k h e f g i j =
 long-laid : (xs : List ℕ) (at : ℕ) (n : LongNumbers) → at + 20 ≤ length xs
     → overlay xs at (bytesFor (longNumbersRows at) (longNumbersFields n)) ≡ laid (longPlaces at) (longNumbersFields n) xs
 unfolding laid
-long-laid xs at n h = sym (long-numbers-put xs at n h refl refl refl refl refl)
+long-laid xs at n h = sym (long-numbers-put xs at n refl h refl refl refl refl refl)
 
 numbers-length : (at : ℕ) (n : LongNumbers) → length (bytesFor (longNumbersRows at) (longNumbersFields n)) ≡ 20
 unfolding bytesFor digits
@@ -225,8 +228,7 @@ directory-moved xs bs e f g h = rw (h, g, f, e)
 pub end-moved : (xs bs : List ℕ) {v : ℕ} {us zs : List ℕ} → Lent bs → 21 ≤ length bs → us ≡ overlay xs 0 (part bs 0 1) → v ≡ endOfReplayOf (values endOfReplayRows bs) .number
     → zs ≡ overlay us 16 (bytesBe 8 v) → zs ≡ laid (letterPlace ∷ endOfReplayPlaces) (values (letterPlace ∷ endOfReplayRows) bs) xs
 unfolding laid values
-end-moved xs bs k h e i f =
-    f ∙ rw (i, e, again (binary anything) (binary anything) 1 (part bs 0 1) refl refl (part-length bs 0 1 (omega arith)) (part-bytes bs 0 1 (lent-bytes bs k)))
+end-moved xs bs k h e i f = f ∙ rw (i, e, rewrites 1 bs 0 (lent-bytes bs k) (omega arith))
 
 pub lay-arm : (k : ℕ) (bs xs : List ℕ) {zs : List ℕ} → getD bs 0 0 ≡ k
     → zs ≡ laid (letterPlace ∷ letterIn recordLetters k .rows) (values (letterPlace ∷ letterIn letters k .rows) bs) xs → zs ≡ laidFrom bs xs
@@ -244,8 +246,7 @@ long-back bs xs at to h e = e ∙ long-laid xs to (longNumbersOf (values (longNu
 pub end-back : (bs xs : List ℕ) {v : ℕ} {us zs : List ℕ} → Lent bs → length bs ≡ recordSize → us ≡ overlay xs 0 (part bs 0 1) → v ≡ be (part bs 16 8)
     → zs ≡ overlay us 1 (charsThenSpaces 20 v) → zs ≡ laid (letterPlace ∷ endOfReplayRows) (values (letterPlace ∷ endOfReplayPlaces) bs) xs
 unfolding laid values
-end-back bs xs k h e i f =
-    f ∙ rw (i, e, again (binary anything) (binary anything) 1 (part bs 0 1) refl refl (part-length bs 0 1 (omega arith)) (part-bytes bs 0 1 (lent-bytes bs k)))
+end-back bs xs k h e i f = f ∙ rw (i, e, rewrites 1 bs 0 (lent-bytes bs k) (omega arith))
 
 pub back-arm : (k c : ℕ) (bs xs : List ℕ) {zs : List ℕ} → c ≡ k
     → zs ≡ laid (letterPlace ∷ letterIn letters k .rows) (values (letterPlace ∷ letterIn recordLetters k .rows) bs) xs → zs ≡ laidBack c bs xs

@@ -13,9 +13,9 @@ use Rattle.field.proofs.Numbers.{be-one}
 use Rattle.field.proofs.Parts.{part-overlay}
 use Rattle.field.proofs.Same.{same-test}
 use Rattle.field.proofs.Answers.{equal-answers}
-use Rattle.message.specs.Layout.{Value, num, Row, asNumber, values}
+use Rattle.message.specs.Layout.{Value, num, Row, asNumber, values, keepsAll}
 use Rattle.message.specs.Feed.{Letter, letterAmong}
-use Rattle.message.specs.Letters.{Content, letterIn, letterFor, fieldsOf, shortSideCode, shortSideLetter, longSideCode, longSideLetter}
+use Rattle.message.specs.Letters.{Content, letterIn, letterFor, fieldsOf, pricesOf, NoZero, shortSideCode, shortSideLetter, longSideCode, longSideLetter}
 use Rattle.message.specs.Message.{refusalNumber, writeRefusalNumber, accepted, readOf, bytesOf, keeps, outcome, writeOf, Typed, textsWith}
 use Rattle.message.specs.declared.Side.{Side}
 use Rattle.message.specs.declared.Side.the-variants.{Bid, Ask}
@@ -32,17 +32,18 @@ use Rattle.message.specs.declared.WriteRefusal.the-variants.{BrokenRecord, Shor
 use Rattle.message.proofs.Table.{is-listed-letter}
 use Rattle.message.proofs.Rounds.{bytes-length, read-write, write-read}
 use Rattle.message.proofs.Typed.{inside, accepted-typed}
+use Rattle.message.proofs.NoZero.{kept-no-zero}
 use Rattle.record.specs.Places.{recordSize, letterPlace, placesFor, shortSidePlaces, longSidePlaces, recordLetters, recordLetter, recordLetterFor}
 use Rattle.record.specs.Record.{laid, laidOver, recordBytes, held, saidBy, saidOf, confirmed, recordOf, Answered, answered, readTo, readAnswer, writtenAs, writeFrom, writeAnswer, Roomy}
 use Rattle.record.specs.declared.Taken.{Taken}
 use Rattle.record.specs.declared.Taken.the-variants.{Is, NoRecord}
-use Rattle.record.proofs.Laid.{apart, outside, Plain, laid-length, part-kept, fit-wide, values-laid, laid-own}
+use Rattle.record.proofs.Laid.{apart, outside, laid-length, part-kept, fit-wide, values-laid, laid-own}
 use Rattle.record.proofs.Typed.{is-said, is-record, record-roomy, roomy, typed}
+use Rattle.record.proofs.NoZero.{no-zero-keeps}
 
 -- ---- the places of a message
 
 pub record Placed (code : ℕ) (rows : List Row) (l : Letter Content) : Type 0 where
-  pub plain : Plain (letterPlace ∷ rows)
   pub within : inside recordSize (letterPlace ∷ rows) ≡ true
   pub disjoint : apart (letterPlace ∷ rows) ≡ true
   pub letter : letterIn recordLetters code ≡ l
@@ -95,36 +96,38 @@ module _ (m : Message) (t : Texts) (f : Roomy m t) where
   record-length =
       let p = placed m in
       laid-length (letterPlace ∷ placesFor m) (num (letterFor m .code) ∷ fieldsOf m t) (replicate recordSize 0) recordSize
-      (fit-wide (letterPlace ∷ placesFor m) (num (letterFor m .code) ∷ fieldsOf m t) (p .plain) (p .byte, f)) (omega (arith, zeros)) (p .within)
+      (fit-wide (letterPlace ∷ placesFor m) (num (letterFor m .code) ∷ fieldsOf m t) (p .byte, f)) (omega (arith, zeros)) (p .within)
       ∙ zeros
 
-  said-back : values (letterPlace ∷ placesFor m) (recordBytes m t) ≡ num (letterFor m .code) ∷ fieldsOf m t
-  unfolding recordBytes laidOver
-  said-back =
-      let p = placed m in
-      values-laid (letterPlace ∷ placesFor m) (num (letterFor m .code) ∷ fieldsOf m t) (replicate recordSize 0) recordSize (p .plain) (p .byte, f)
-      (omega (arith, zeros)) (p .within) (p .disjoint)
+  -- zero held as a price above zero has the record of none
+  module _ (z : NoZero (pricesOf m)) where
+    said-back : values (letterPlace ∷ placesFor m) (recordBytes m t) ≡ num (letterFor m .code) ∷ fieldsOf m t
+    unfolding recordBytes laidOver keepsAll
+    said-back =
+        let p = placed m in
+        values-laid (letterPlace ∷ placesFor m) (num (letterFor m .code) ∷ fieldsOf m t) (replicate recordSize 0) recordSize (no-zero-keeps m t z) (p .byte, f)
+        (omega (arith, zeros)) (p .within) (p .disjoint)
 
-  letter-back : getD (recordBytes m t) 0 0 ≡ letterFor m .code
-  unfolding values
-  letter-back =
-      sym (be-one (recordBytes m t) 0 (omega (arith, record-length)))
-      ∙ ap (λ (vs : List Value). asNumber (getD vs 0 (num 0))) said-back
+    letter-back : getD (recordBytes m t) 0 0 ≡ letterFor m .code
+    unfolding values
+    letter-back =
+        sym (be-one (recordBytes m t) 0 (omega (arith, record-length)))
+        ∙ ap (λ (vs : List Value). asNumber (getD vs 0 (num 0))) said-back
 
-  fields-back : values (placesFor m) (recordBytes m t) ≡ fieldsOf m t
-  unfolding values
-  fields-back = ap (drop 1) said-back
+    fields-back : values (placesFor m) (recordBytes m t) ≡ fieldsOf m t
+    unfolding values
+    fields-back = ap (drop 1) said-back
 
-  said-is : saidOf (recordBytes m t) ≡ held m (textsWith m t)
-  unfolding saidOf saidBy
-  said-is =
-      let l = is-listed-letter m t in
-      rw (letter-back, placed m .letter, fields-back, l .made)
+    said-is : saidOf (recordBytes m t) ≡ held m (textsWith m t)
+    unfolding saidOf saidBy
+    said-is =
+        let l = is-listed-letter m t in
+        rw (letter-back, placed m .letter, fields-back, l .made)
 
-  -- THEOREM: a message is taken back from its record, with its texts
-  pub take-back : recordOf (recordBytes m t) ≡ held m (textsWith m t)
-  unfolding recordOf confirmed
-  take-back = rw (eq-eqb (length (recordBytes m t)) recordSize record-length, said-is, same-test (own-record m t))
+    -- THEOREM: a message is taken back from its record, with its texts, unless it holds zero as a price above zero
+    pub take-back : recordOf (recordBytes m t) ≡ held m (textsWith m t)
+    unfolding recordOf confirmed
+    take-back = rw (eq-eqb (length (recordBytes m t)) recordSize record-length, said-is, same-test (own-record m t))
 
 -- THEOREM: what bytes are the record of is put back as the same bytes
 pub put-back : (bs : List ℕ) (m : Message) (t : Texts) → recordOf bs ≡ held m t → recordBytes m t ≡ bs
@@ -139,7 +142,7 @@ zero-elsewhere bs m t i n s e o =
     let f = record-roomy bs s m t e in
     ap (λ (x : List ℕ). part x i n) (sym (put-back bs m t e))
     ∙ part-kept (letterPlace ∷ placesFor m) (num (letterFor m .code) ∷ fieldsOf m t) (replicate recordSize 0) recordSize i n
-    (fit-wide (letterPlace ∷ placesFor m) (num (letterFor m .code) ∷ fieldsOf m t) (p .plain) (p .byte, f)) (omega (arith, length-replicate {A = ℕ} recordSize 0))
+    (fit-wide (letterPlace ∷ placesFor m) (num (letterFor m .code) ∷ fieldsOf m t) (p .byte, f)) (omega (arith, length-replicate {A = ℕ} recordSize 0))
     (p .within) o
 
 getD-zeros : (n i : ℕ) → _≡_ {A = ℕ} (getD (replicate n 0) i 0) 0
@@ -149,13 +152,13 @@ getD-zeros (suc n) (suc i) = getD-zeros n i
 
 own-laid : (bs : List ℕ) (m : Message) (t : Texts) → Bytes bs → length bs ≡ recordSize → saidOf bs ≡ held m t
     → ((i : ℕ) → outside i 1 (letterPlace ∷ placesFor m) ≡ true → getD (replicate recordSize 0) i 0 ≡ getD bs i 0) → recordBytes m t ≡ bs
-unfolding recordBytes laidOver values
+unfolding recordBytes laidOver values keepsAll
 own-laid bs m t s l e z =
     let p = placed m in
     let w = is-said bs m t e in
     let first : letterFor m .code ≡ be (part bs 0 1) = w .letter ∙ sym (be-one bs 0 (omega (arith, l))) in
     rw (first, w .fields)
-    (laid-own (letterPlace ∷ placesFor m) bs (replicate recordSize 0) recordSize (p .plain) s (omega (arith, l)) (length-replicate {A = ℕ} recordSize 0 ∙ sym l) (p .within) z)
+    (laid-own (letterPlace ∷ placesFor m) bs (replicate recordSize 0) recordSize (w .kept) s (omega (arith, l)) (length-replicate {A = ℕ} recordSize 0 ∙ sym l) (p .within) z)
 
 -- THEOREM: and 112 bytes of a listed letter with 0 in every other place are a record
 pub record-exactly : (bs : List ℕ) (m : Message) (t : Texts) → Bytes bs → length bs ≡ recordSize → saidOf bs ≡ held m t
@@ -265,7 +268,7 @@ wire-back bs before memory out s e room =
     let f = roomy m t (y .0) (w .1) in
     let wrote : writeOf m (textsWith m t) out ≡ outcome (Whole (length bs)) (overlay out 0 bs)
     = own-write m t out ∙ written m t out (w .1) (omega (arith, y .1)) ∙ rw (w .0, y .1) in
-    rw (r .kept) (held-written (recordBytes m t) out m (textsWith m t) (length bs) (overlay out 0 bs) (record-length m t f) (take-back m t f) wrote)
+    rw (r .kept) (held-written (recordBytes m t) out m (textsWith m t) (length bs) (overlay out 0 bs) (record-length m t f) (take-back m t f (kept-no-zero m t (w .1))) wrote)
 
 accepted-read : (bs before : List ℕ) (m : Message) (t : Texts) → length before ≡ recordSize → readOf bs ≡ accepted m t
     → readAnswer bs before ≡ answered 0 (recordBytes m t)

@@ -20,6 +20,7 @@ use Rattle.message.specs.Message.{keeps, bytesOf, writeOf, Typed}
 use Rattle.message.specs.declared.Message.{Message}
 use Rattle.message.specs.declared.Texts.{Texts}
 use Rattle.field.proofs.Bools.{both-left, both-right}
+use Rattle.message.proofs.Amounts.{amount-from, from-is-price}
 use Rattle.message.proofs.Layouts.{bytes-length, fields-length}
 use Rattle.message.proofs.Feeds.{found, code-found, tiled-found}
 use Rattle.message.proofs.Table.{found-makes, is-listed-letter, letters-tiled}
@@ -193,16 +194,16 @@ module _ (c : ℕ) (bs : List ℕ) where
 
     pub bid-kept : {u : Bool} → c ≡ 66 → u ≡ priceInRange (be (part bs 28 4)) → h && u ≡ keepsAll (letterIn letters c .rows) (values (letterIn recordLetters c .rows) bs)
     unfolding letters recordLetters letterAmong keepsAll values
-    bid-kept e q = rw (e, t, q) (simp (and-true, and-assoc))
+    bid-kept e q = rw (e, t, q) (simp (from-is-price, amount-from, and-true, and-assoc))
 
     pub ask-kept : {u : Bool} → c ≡ 65 → u ≡ priceInRange (be (part bs 48 4)) → h && u ≡ keepsAll (letterIn letters c .rows) (values (letterIn recordLetters c .rows) bs)
     unfolding letters recordLetters letterAmong keepsAll values
-    ask-kept e q = rw (e, t, q) (simp (and-true, and-assoc))
+    ask-kept e q = rw (e, t, q) (simp (from-is-price, amount-from, and-true, and-assoc))
 
     pub long-kept : {u v : Bool} → c ≡ 81 → u ≡ priceInRange (be (part bs 28 4)) → v ≡ priceInRange (be (part bs 48 4))
         → h && (u && v) ≡ keepsAll (letterIn letters c .rows) (values (letterIn recordLetters c .rows) bs)
     unfolding letters recordLetters letterAmong keepsAll values
-    long-kept e q r = rw (e, t, q, r) (simp (and-true, and-assoc))
+    long-kept e q r = rw (e, t, q, r) (simp (from-is-price, amount-from, and-true, and-assoc))
 
   pub number-kept : {r : Bool} {v : ℕ} → c ≡ 77 → v ≡ be (part bs 16 8) → r ≡ numberInRange v
       → r ≡ keepsAll (letterIn letters c .rows) (values (letterIn recordLetters c .rows) bs)

@@ -12,17 +12,21 @@ use Rattle.field.specs.Bytes.{same, Bytes}
 use Rattle.field.specs.Limits.{numberInRange, highestNumber}
 use Rattle.field.proofs.Bools.{both-left, both-right}
 use Rattle.field.proofs.Same.{test-same}
-use Rattle.message.specs.Layout.{values, keepsAll}
+use Rattle.message.specs.Layout.{values, keepsAll, numbered}
 use Rattle.message.specs.Feed.{Letter}
-use Rattle.message.specs.Letters.{Content, letterIn, letterFor, unlisted, fieldsOf}
+use Rattle.message.specs.Letters.{Content, letterIn, letterFor, unlisted, shortQuoteOf, shortQuoteFields, shortSideOf, shortSideFields, fieldsOf}
 use Rattle.message.specs.Message.{keeps, Typed}
+use Rattle.message.specs.declared.Side.{Side}
+use Rattle.message.specs.declared.Side.the-variants.{Bid, Ask}
 use Rattle.message.specs.declared.Message.{Message}
 use Rattle.message.specs.declared.Message.the-variants as message
 use Rattle.message.specs.declared.Texts.{Texts}
+use Rattle.message.proofs.Amounts.{long-back}
+use Rattle.message.proofs.Layouts.{read-as-numbers}
 use Rattle.message.proofs.Puts.{twenty}
 use Rattle.message.proofs.Feeds.{found, code-found}
 use Rattle.message.proofs.Typed.{inside, values-fit}
-use Rattle.record.specs.Places.{recordSize, placesFor, recordLetters}
+use Rattle.record.specs.Places.{recordSize, placesFor, shortQuotePlaces, shortSidePlaces, recordLetters}
 use Rattle.record.specs.Record.{recordBytes, held, noRecord, saidBy, saidOf, confirmed, recordOf, Roomy}
 use Rattle.record.specs.declared.Taken.{Taken}
 use Rattle.record.specs.declared.Taken.the-variants.{Is, NoRecord}
@@ -62,12 +66,43 @@ pub record Makes (l : Letter Content) (bs : List ℕ) : Type 0 where
   pub code : letterFor (l .makes (values (l .rows) bs) .0) .code ≡ l .code
   pub fields : fieldsOf (l .makes (values (l .rows) bs) .0) (l .makes (values (l .rows) bs) .1) ≡ values (l .rows) bs
   pub within : inside recordSize (l .rows) ≡ true
-  pub kept : keepsAll (l .rows) (values (l .rows) bs) ≡ true
+
+-- the prices of a short form too
+short-quote-again : (bs : List ℕ) → shortQuoteFields (shortQuoteOf (values shortQuotePlaces bs)) ≡ values shortQuotePlaces bs
+unfolding values
+short-quote-again bs = simp long-back
+
+short-side-again : (s : Side) (bs : List ℕ) → shortSideFields (shortSideOf s (values (shortSidePlaces s) bs)) ≡ values (shortSidePlaces s) bs
+unfolding values
+short-side-again s bs = simp long-back
+
+-- what holds of one letter, and what of those after it
+infixr 5 _also_
+abbrev pub _also_ : {A B : Type 0} → A → B → A × B
+a also b = (a, b)
 
 pub record-makes : (c : ℕ) (bs : List ℕ) → (letterIn recordLetters c .size ≡ 0 → ⊥) → Makes (letterIn recordLetters c) bs
-unfolding recordLetters values inside keepsAll
+unfolding recordLetters values inside
 record-makes c bs =
-    found unlisted (λ (l : Letter Content). (l .size ≡ 0 → ⊥) → Makes l bs) c recordLetters (λ h. absurd (h refl)) (search tt depth 60)
+    found unlisted (λ (l : Letter Content). (l .size ≡ 0 → ⊥) → Makes l bs) c recordLetters (λ h. absurd (h refl))
+    ((λ e h. record { own = refl; code = refl; fields = refl; within = refl })
+    also (λ e h. record { own = refl; code = refl; fields = refl; within = refl })
+    also (λ e h. record { own = refl; code = refl; fields = refl; within = refl })
+    also (λ e h. record { own = refl; code = refl; fields = short-quote-again bs; within = refl })
+    also (λ e h. record { own = refl; code = refl; fields = refl; within = refl })
+    also (λ e h. record { own = refl; code = refl; fields = short-side-again Bid bs; within = refl })
+    also (λ e h. record { own = refl; code = refl; fields = short-side-again Ask bs; within = refl })
+    also (λ e h. record { own = refl; code = refl; fields = refl; within = refl })
+    also (λ e h. record { own = refl; code = refl; fields = refl; within = refl })
+    also (λ e h. record { own = refl; code = refl; fields = refl; within = refl })
+    also tt)
+
+-- a record asks nothing of a number, and a price that is read is one
+pub record-kept : (c : ℕ) (bs : List ℕ) → keepsAll (letterIn recordLetters c .rows) (values (letterIn recordLetters c .rows) bs) ≡ true
+unfolding recordLetters values keepsAll
+record-kept c bs =
+    read-as-numbers (letterIn recordLetters c .rows) bs
+    ∙ found unlisted (λ (l : Letter Content). keepsAll (numbered (l .rows)) (values (numbered (l .rows)) bs) ≡ true) c recordLetters refl (search tt depth 60)
 
 none-clash : {A : Type 0} {m : Message} {t : Texts} → noRecord ≡ held m t → A
 none-clash {m = m} e =
@@ -102,7 +137,7 @@ is-said bs m t = by (eqb (l .size) 0) refl
           letter = ap (λ (x : Message). letterFor x .code) (sym p) ∙ w .code ∙ code-found unlisted refl recordLetters (getD bs 0 0) some;
           fields = rw (places, ← p, ← u) (w .fields);
           within = rw places (w .within);
-          kept = rw places (w .kept);
+          kept = rw places (record-kept (getD bs 0 0) bs);
         }
 
 pub said-roomy : (bs : List ℕ) → Bytes bs → recordSize ≤ length bs → (m : Message) (t : Texts) → saidOf bs ≡ held m t → Roomy m t

@@ -8,11 +8,12 @@ use borrow.Author.Tests.{eq-eqb, ne-eqb}
 use lib.ListN.{length, replicate}
 use Rattle.field.specs.Bytes.{part, overlay, be}
 use Rattle.field.proofs.Parts.{part-length, overlay-whole}
-use Rattle.message.specs.Layout.{values}
+use Rattle.message.specs.Layout.{priceFrom, values}
 use Rattle.message.specs.Feed.{Letter}
-use Rattle.message.specs.Letters.{Content, letterIn, unlisted, noTexts, shortNumbersOf, textsOf}
+use Rattle.message.specs.Letters.{Content, letterIn, unlisted, noTexts, shortPrice, shortNumbersOf, textsOf}
 use Rattle.message.specs.Test.{tested}
 use Rattle.message.specs.Message.{readOf}
+use Rattle.message.specs.declared.ShortPrice.{ShortPrice}
 use Rattle.message.specs.declared.ShortNumbers.{ShortNumbers}
 use Rattle.message.specs.declared.Message.{Message}
 use Rattle.message.specs.declared.Texts.{Texts}
@@ -22,15 +23,18 @@ use Rattle.message.proofs.Feeds.{found}
 use Rattle.record.specs.Places.{recordSize, shortPlaces, instrumentPlaces, recordLetters}
 use Rattle.record.specs.Record.{held, noRecord, saidBy, recordOf, answered, readTo, readAnswer, writeAnswer}
 use Rattle.record.specs.declared.Held.{Held}
+use Rattle.record.proofs.Typed.{_also_}
 
 -- ---- what the fields say
 
-pub short-said : (bs : List ℕ) (at : ℕ) {market price size customer professional : ℕ} → market ≡ be (part bs (at + 2) 2) → price ≡ be (part bs (at + 6) 2)
-    → size ≡ be (part bs (at + 10) 2) → customer ≡ be (part bs (at + 14) 2) → professional ≡ be (part bs (at + 18) 2)
+pub short-said : (bs : List ℕ) (at : ℕ) {market pennies size customer professional : ℕ} {price : ShortPrice} → market ≡ be (part bs (at + 2) 2)
+    → pennies ≡ be (part bs (at + 6) 2) → price ≡ shortPrice (priceFrom pennies) → size ≡ be (part bs (at + 10) 2)
+    → customer ≡ be (part bs (at + 14) 2) → professional ≡ be (part bs (at + 18) 2)
     → _≡_ {A = ShortNumbers} (record { market = market; price = price; size = size; customer = customer; professional = professional })
     (shortNumbersOf (values (shortPlaces at) bs))
 unfolding values
-short-said bs at e f g h j i = record { market = e i; price = f i; size = g i; customer = h i; professional = j i }
+short-said bs at e f p g h j i =
+    record { market = e i; price = (p ∙ ap (λ (n : ℕ). shortPrice (priceFrom n)) f) i; size = g i; customer = h i; professional = j i }
 
 pub texts-copied : (bs : List ℕ) {a b c : List ℕ} → recordSize ≤ length bs → a ≡ overlay (replicate 8 0) 0 (part bs 75 8) → b ≡ overlay (replicate 13 0) 0 (part bs 83 13)
     → c ≡ overlay (replicate 16 0) 0 (part bs 96 16) → _≡_ {A = Texts} (record { symbol = a; underlying = b; reserved = c }) (textsOf (values instrumentPlaces bs))
@@ -49,10 +53,6 @@ said-as says e = ap (λ x. held (says x) noTexts) e
 -- in the arm of letter k
 pub arm : (k c : ℕ) (bs : List ℕ) {r : Held} → c ≡ k → r ≡ saidBy (letterIn recordLetters k) bs → r ≡ saidBy (letterIn recordLetters c) bs
 arm k c bs e p = p ∙ ap (λ x. saidBy (letterIn recordLetters x) bs) (sym e)
-
-infixr 5 _also_
-abbrev _also_ : {A B : Type 0} → A → B → A × B
-a also b = (a, b)
 
 -- none of the ten
 pub no-arm : (c : ℕ) (bs : List ℕ) {r : Held} → (c ≡ 83 → ⊥) → (c ≡ 109 → ⊥) → (c ≡ 72 → ⊥) → (c ≡ 113 → ⊥) → (c ≡ 81 → ⊥) → (c ≡ 98 → ⊥) → (c ≡ 97 → ⊥) → (c ≡ 66 → ⊥)

@@ -3,7 +3,7 @@
 -- Assumes nothing.
 use Prim.Native.Nat.{ℕ, _+_}
 use mathlib.Core.List.{List, [], _∷_, _++_}
-use Rattle.message.specs.Layout.{Row, row, binary, bytes}
+use Rattle.message.specs.Layout.{Row, row, binary, bytes, price}
 use Rattle.message.specs.Feed.{Letter}
 use Rattle.message.specs.Letters.{Content, anything, letterFor, systemEventLetter, directoryLetter, tradingActionLetter, shortQuoteLetter, longQuoteLetter, shortSideLetter, longSideLetter, endOfReplayLetter}
 use Rattle.message.specs.declared.Side.{Side}
@@ -17,6 +17,10 @@ recordSize = 112
 -- a big-endian number of so many bytes; whether it keeps the field rules is not a record's matter
 abbrev pub number : ℕ → ℕ → Row
 number at width = row at width (binary anything)
+
+-- a price is such a number, in which 0 says none
+abbrev pub pricePlace : ℕ → ℕ → Row
+pricePlace at width = row at width (price anything)
 
 abbrev pub letterPlace : Row
 letterPlace = number 0 1
@@ -39,11 +43,11 @@ sideAt Ask = 44
 
 -- a side has five numbers of four bytes: market, price, size, customer, professional
 abbrev pub longPlaces : ℕ → List Row
-longPlaces at = number at 4 ∷ number (at + 4) 4 ∷ number (at + 8) 4 ∷ number (at + 12) 4 ∷ number (at + 16) 4 ∷ []
+longPlaces at = number at 4 ∷ pricePlace (at + 4) 4 ∷ number (at + 8) 4 ∷ number (at + 12) 4 ∷ number (at + 16) 4 ∷ []
 
 -- those of a short quote stand in the two low bytes of each, and below 65,536 they are the same number
 abbrev pub shortPlaces : ℕ → List Row
-shortPlaces at = number (at + 2) 2 ∷ number (at + 6) 2 ∷ number (at + 10) 2 ∷ number (at + 14) 2 ∷ number (at + 18) 2 ∷ []
+shortPlaces at = number (at + 2) 2 ∷ pricePlace (at + 6) 2 ∷ number (at + 10) 2 ∷ number (at + 14) 2 ∷ number (at + 18) 2 ∷ []
 
 -- and the two high bytes of each are 0
 abbrev pub highPlaces : ℕ → List Row

@@ -16,6 +16,7 @@ use message::SystemEvent;
 use message::Texts;
 use message::TradingAction;
 use message::numbers;
+use message::prices;
 ghost use mathlib.Core.Path.{_≡_};
 ghost use Prim.Native.Nat.{_+_, _≤_};
 ghost use lib.ListN.{length};
@@ -41,7 +42,7 @@ fn short(bytes: &[u8], at: usize) -> ShortNumbers
 {
     ShortNumbers {
         market: field::read2(bytes, at + 2),
-        price: field::read2(bytes, at + 6),
+        price: prices::short(field::read2(bytes, at + 6)),
         size: field::read2(bytes, at + 10),
         customer: field::read2(bytes, at + 14),
         professional: field::read2(bytes, at + 18),

@@ -46,7 +46,7 @@ module _ {cs : List Change} {ps : List Place} (f : Fitting cs ps) (r : List ℕ)
 
 -- ---- the places of each kind
 
-quote-sides : (c : ℕ) (s : Stamp) (r : List ℕ) (sides : Sides)
+pub quote-sides : (c : ℕ) (s : Stamp) (r : List ℕ) (sides : Sides)
     → Fitting (conditionChange c ∷ stampChange s ∷ sidesChanges sides (sidesOf r)) (quotePlaces sides)
 unfolding sidesChanges digits bytesFor inside
 quote-sides c s r (One Bid n) = record { wide = (refl, (refl, (refl, (refl, tt)))); within = refl; there = refl }

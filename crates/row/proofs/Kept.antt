@@ -1,6 +1,6 @@
 -- THE ROW RULES ARE KEPT by every message that keeps its own field rules.
 -- Assumes nothing.
-use mathlib.Core.Path.{_≡_, refl, sym, ap, subst, _∙_}
+use mathlib.Core.Path.{_≡_, refl, sym, ap, _∙_}
 use mathlib.Core.Bool.{Bool, true, false, cond, _&&_, _||_}
 use mathlib.Core.List.{List, [], _∷_, _++_}
 use Prim.Native.Nat.{ℕ, zero, suc, _+_, _≤_, _<_}
@@ -9,13 +9,13 @@ use borrow.Author.Tests.{leb-true, le-leb}
 use lib.Dec.{eqb, leb, lit<}
 use lib.ListN.{length, replicate, length-replicate}
 use Rattle.field.specs.Bytes.{part, value, digits, be, bytesBe}
-use Rattle.field.specs.Limits.{timeInRange, latestTime, priceInRange, priceEnd}
+use Rattle.field.specs.Limits.{timeInRange, latestTime, priceInRange}
 use Rattle.field.specs.Text.{within, every, isZero}
 use Rattle.field.proofs.Bools.{both-left, both-right}
 use Rattle.field.proofs.Parts.{part-part}
 use Rattle.field.proofs.Numbers.{value-digits}
-use Rattle.message.specs.Layout.{values, keepsAll, bytesFor, tiled, from, Fit}
-use Rattle.message.specs.Letters.{listed, states, conditions, stampRows, stampFields, longNumbersRows, longNumbersFields, instrumentRows, instrumentFields, entryRows, entrySize}
+use Rattle.message.specs.Layout.{amount, values, keepsAll, bytesFor, tiled, from, Fit}
+use Rattle.message.specs.Letters.{listed, states, conditions, stampRows, stampFields, instrumentRows, instrumentFields, entryRows, entrySize}
 use Rattle.message.specs.declared.Stamp.{Stamp}
 use Rattle.message.specs.declared.Side.{Side}
 use Rattle.message.specs.declared.Side.the-variants.{Bid, Ask}
@@ -25,13 +25,15 @@ use Rattle.message.specs.declared.TradingAction.{TradingAction}
 use Rattle.message.specs.declared.Texts.{Texts}
 use Rattle.message.proofs.Layouts.{values-back, values-in-part, rowsIn}
 use Rattle.message.proofs.Typed.{listed-below}
-use Rattle.row.specs.Fields.{rowSize, entryOf, other, stateOf, conditionOf, sidesOf, sideAt, numbersOf, priceOf, timeOf, hasSeen, seenWith}
-use Rattle.row.specs.Changes.{Change, change, changed, places, outside, entryChange, stateChange, conditionChange, seenChange, numbersChange, stampChange, purge, purgeFor, sidesChanges, directoryChanges, newRow, actionChanges}
+use Rattle.row.specs.Fields.{rowSize, entryOf, other, stateOf, conditionOf, sidesOf, sideAt, numbersOf, amountOf, timeOf, hasSeen, seenWith}
+use Rattle.row.specs.Changes.{Change, change, changed, places, outside, entryChange, stateChange, conditionChange, seenChange, numbersChange, stampChange, purge, purgeFor, sidesChanges, directoryChanges, newRow, actionChanges, quotedBy}
+use Rattle.row.specs.Changes as changes
 use Rattle.row.specs.Rules.{entryKeeps, marksKeep, sideKeeps, bareKeeps, stampKeeps, spareKeeps, rowKeeps}
 use Rattle.row.specs.declared.Sides.{Sides}
 use Rattle.row.specs.declared.Sides.the-variants.{One, Both}
 use Rattle.row.proofs.Changed.{Wide, inside, part-kept, part-put}
 use Rattle.row.proofs.Exactly.{entry-wide}
+use Rattle.row.proofs.Quoted.{Stands, put-amount, unquoted-clash, quoted-stands}
 
 -- ---- the rules one by one
 
@@ -91,7 +93,7 @@ module _ (r r′ : List ℕ) where
   side-same : (side : Side) → hasSeen side (sidesOf r′) ≡ hasSeen side (sidesOf r) → numbersOf side r′ ≡ numbersOf side r → sideKeeps side r′ ≡ sideKeeps side r
   unfolding sideKeeps
   side-same side e f =
-      let p : priceOf side r′ ≡ priceOf side r
+      let p : amountOf side r′ ≡ amountOf side r
       = ap be (sym (part-part r′ (sideAt side) 20 4 4 (omega arith)) ∙ ap (λ (x : List ℕ). part x 4 4) f ∙ part-part r (sideAt side) 20 4 4 (omega arith)) in
       rw (e, f, p)
 
@@ -104,20 +106,16 @@ module _ (r r′ : List ℕ) where
   bare-same e f = rw (e, f)
 
 -- a side that is put is seen, and its price is in range
-side-put : (r : List ℕ) (side : Side) (n : LongNumbers) → hasSeen side (sidesOf r) ≡ true → priceInRange (n .price) ≡ true
-    → numbersOf side r ≡ bytesFor (longNumbersRows (sideAt side)) (longNumbersFields n) → sideKeeps side r ≡ true
-unfolding sideKeeps digits bytesFor part
-side-put r side n s p e =
-    let f : part (numbersOf side r) 4 4 ≡ bytesBe 4 (n .price) = ap (λ (x : List ℕ). part x 4 4) e in
-    let g : priceOf side r ≡ n .price
-    = ap be (sym (part-part r (sideAt side) 20 4 4 (omega arith)) ∙ f) ∙ value-digits 256 (lit< tt) 4 (n .price) (omega (arith, leb-true (suc (n .price)) priceEnd p)) in
-    rw (s, g) p
+side-put : (r : List ℕ) (side : Side) (n : LongNumbers) → hasSeen side (sidesOf r) ≡ true → priceInRange (amount (n .price)) ≡ true
+    → Stands r side n → sideKeeps side r ≡ true
+unfolding sideKeeps
+side-put r side n s p e = rw (s, put-amount r side n p e) p
 
 -- an unseen side that is zero
 side-zero : (r : List ℕ) (side : Side) → numbersOf side r ≡ replicate 20 0 → sideKeeps side r ≡ true
 unfolding sideKeeps part value every
 side-zero r side e =
-    let g : priceOf side r ≡ 0 = ap be (sym (part-part r (sideAt side) 20 4 4 (omega arith)) ∙ ap (λ (x : List ℕ). part x 4 4) e) in
+    let g : amountOf side r ≡ 0 = ap be (sym (part-part r (sideAt side) 20 4 4 (omega arith)) ∙ ap (λ (x : List ℕ). part x 4 4) e) in
     rw (e, g) (or-true (hasSeen side (sidesOf r)))
   where
     or-true : (b : Bool) → (b || true) && true ≡ true
@@ -156,8 +154,8 @@ module _ where
 
 -- the prices of a quote's own side or sides are in range
 abbrev pub PricesIn : Sides → Type 0
-PricesIn (One side n) = priceInRange (n .price) ≡ true
-PricesIn (Both bid ask) = (priceInRange (bid .price) ≡ true) × (priceInRange (ask .price) ≡ true)
+PricesIn (One side n) = priceInRange (amount (n .price)) ≡ true
+PricesIn (Both bid ask) = (priceInRange (amount (bid .price)) ≡ true) × (priceInRange (amount (ask .price)) ≡ true)
 
 module _ (c : ℕ) (s : Stamp) (r : List ℕ) (long : rowSize ≤ length r) (hc : listed conditions c ≡ true) (ht : timeInRange (s .time) ≡ true) (k : RowKept r) where
   few : sidesOf r ≤ 3
@@ -225,15 +223,7 @@ module _ (c : ℕ) (s : Stamp) (r : List ℕ) (long : rowSize ≤ length r) (hc 
           tail = part-kept cs r rowSize 106 18 all-wide long all-inside (clear .6);
         }
 
-    -- of a side that is put, and of one that is left
-    numbers-put : (before after : List Change) (at : ℕ) (n : LongNumbers) → nums ≡ before ++ (numbersChange at n ∷ after) → outside at 20 (places after) ≡ true
-        → part (changed (quotes sides nums) r) at 20 ≡ bytesFor (longNumbersRows at) (longNumbersFields n)
-    numbers-put before after at n e o =
-        let cs : List Change = quotes sides before in
-        let i : quotes sides nums ≡ cs ++ (numbersChange at n ∷ after) = ap (quotes sides) e in
-        ap (λ (x : List Change). part (changed x r) at 20) i
-        ∙ part-put cs (numbersChange at n) after r rowSize (subst Wide i all-wide) long (subst (λ (x : List Change). inside rowSize x ≡ true) i all-inside) o
-
+    -- of a side that is left
     numbers-left : (at : ℕ) → outside at 20 (places (quotes sides nums)) ≡ true → part (changed (quotes sides nums) r) at 20 ≡ part r at 20
     numbers-left at o = part-kept (quotes sides nums) r rowSize at 20 all-wide long all-inside o
 
@@ -248,7 +238,7 @@ module _ (c : ℕ) (s : Stamp) (r : List ℕ) (long : rowSize ≤ length r) (hc 
       let q = quoted sides nums (refl, tt) refl clear in
       let v = quoted-sides q (e .few) in
       quoted-kept (changed (quotes sides nums) r) sides q (e .few) (e .some)
-      (side-put (changed (quotes sides nums) r) Bid n (ap (hasSeen Bid) v ∙ e .own) p (numbers-put sides nums (refl, tt) refl clear [] [] 56 n refl refl))
+      (side-put (changed (quotes sides nums) r) Bid n (ap (hasSeen Bid) v ∙ e .own) p (quoted-stands c s r long (One Bid n) Bid n refl))
       (side-same r (changed (quotes sides nums) r) Ask (ap (hasSeen Ask) v ∙ e .rest) (numbers-left sides nums (refl, tt) refl clear 76 refl) ∙ k .ask)
   quote-keeps (One Ask n) p =
       let e = seen Ask (sidesOf r) few in
@@ -259,7 +249,7 @@ module _ (c : ℕ) (s : Stamp) (r : List ℕ) (long : rowSize ≤ length r) (hc 
       let v = quoted-sides q (e .few) in
       quoted-kept (changed (quotes sides nums) r) sides q (e .few) (e .some)
       (side-same r (changed (quotes sides nums) r) Bid (ap (hasSeen Bid) v ∙ e .rest) (numbers-left sides nums (refl, tt) refl clear 56 refl) ∙ k .bid)
-      (side-put (changed (quotes sides nums) r) Ask n (ap (hasSeen Ask) v ∙ e .own) p (numbers-put sides nums (refl, tt) refl clear [] [] 76 n refl refl))
+      (side-put (changed (quotes sides nums) r) Ask n (ap (hasSeen Ask) v ∙ e .own) p (quoted-stands c s r long (One Ask n) Ask n refl))
   quote-keeps (Both bid ask) p =
       let d = seen Bid (sidesOf r) few in
       let e = seen Ask (seenWith Bid (sidesOf r)) (d .few) in
@@ -269,10 +259,36 @@ module _ (c : ℕ) (s : Stamp) (r : List ℕ) (long : rowSize ≤ length r) (hc 
       let q = quoted sides nums (refl, (refl, tt)) refl clear in
       let v = quoted-sides q (e .few) in
       quoted-kept (changed (quotes sides nums) r) sides q (e .few) (e .some)
-      (side-put (changed (quotes sides nums) r) Bid bid (ap (hasSeen Bid) v ∙ e .rest ∙ d .own) (p .0)
-      (numbers-put sides nums (refl, (refl, tt)) refl clear [] (numbersChange 76 ask ∷ []) 56 bid refl refl))
-      (side-put (changed (quotes sides nums) r) Ask ask (ap (hasSeen Ask) v ∙ e .own) (p .1)
-      (numbers-put sides nums (refl, (refl, tt)) refl clear (numbersChange 56 bid ∷ []) [] 76 ask refl refl))
+      (side-put (changed (quotes sides nums) r) Bid bid (ap (hasSeen Bid) v ∙ e .rest ∙ d .own) (p .0) (quoted-stands c s r long (Both bid ask) Bid bid refl))
+      (side-put (changed (quotes sides nums) r) Ask ask (ap (hasSeen Ask) v ∙ e .own) (p .1) (quoted-stands c s r long (Both bid ask) Ask ask refl))
+
+  -- the sum of the sides seen, after changes that clear it
+  sum-after : (sides : ℕ) (nums : List Change) → Wide nums → inside rowSize nums ≡ true → Clear nums → sides ≤ 3
+      → sidesOf (changed (quotes sides nums) r) ≡ sides
+  sum-after sides nums wide within clear h = quoted-sides (quoted sides nums wide within clear) h
+
+  -- THEOREM: a side that a quote sets is seen after it
+  pub quote-seen : (sides : Sides) (side : Side) (n : LongNumbers) → quotedBy sides side ≡ changes.quoted n
+      → hasSeen side (sidesOf (changed (conditionChange c ∷ stampChange s ∷ sidesChanges sides (sidesOf r)) r)) ≡ true
+  unfolding sidesChanges digits bytesFor inside outside
+  quote-seen (One Bid m) Bid n e =
+      let d = seen Bid (sidesOf r) few in
+      ap (hasSeen Bid) (sum-after (seenWith Bid (sidesOf r)) (numbersChange 56 m ∷ []) (refl, tt) refl (refl, refl, refl, refl, refl, refl, refl) (d .few)) ∙ d .own
+  quote-seen (One Bid m) Ask n e = unquoted-clash e
+  quote-seen (One Ask m) Bid n e = unquoted-clash e
+  quote-seen (One Ask m) Ask n e =
+      let d = seen Ask (sidesOf r) few in
+      ap (hasSeen Ask) (sum-after (seenWith Ask (sidesOf r)) (numbersChange 76 m ∷ []) (refl, tt) refl (refl, refl, refl, refl, refl, refl, refl) (d .few)) ∙ d .own
+  quote-seen (Both bid ask) side n e =
+      let d = seen Bid (sidesOf r) few in
+      let f = seen Ask (seenWith Bid (sidesOf r)) (d .few) in
+      ap (hasSeen side)
+      (sum-after (seenWith Ask (seenWith Bid (sidesOf r))) (numbersChange 56 bid ∷ numbersChange 76 ask ∷ []) (refl, (refl, tt)) refl (refl, refl, refl, refl, refl, refl, refl) (f .few))
+      ∙ by side
+    where
+      by : (x : Side) → hasSeen x (seenWith Ask (seenWith Bid (sidesOf r))) ≡ true
+      by Bid = seen Ask (seenWith Bid (sidesOf r)) (seen Bid (sidesOf r) few .few) .rest ∙ seen Bid (sidesOf r) few .own
+      by Ask = seen Ask (seenWith Bid (sidesOf r)) (seen Bid (sidesOf r) few .few) .own
 
 -- ---- a trading action
 

@@ -3,4 +3,5 @@ pub mod Wired
 pub mod Changed
 pub mod Kept
 pub mod Exactly
+pub mod Quoted
 mod Examples

@@ -11,8 +11,9 @@ use Rattle.field.specs.Bytes.{part, overlay, be, bytesBe}
 use Rattle.field.specs.Limits.{priceInRange}
 use Rattle.field.specs.Text.{every, isZero}
 use Rattle.field.proofs.Parts.{overlay-whole}
-use Rattle.message.specs.Layout.{bytesFor, values}
+use Rattle.message.specs.Layout.{priceFrom, bytesFor, values}
 use Rattle.message.specs.Letters.{listed, states, conditions, stampRows, stampFields, longNumbersRows, longNumbersFields, instrumentRows, instrumentFields}
+use Rattle.message.specs.declared.Price.{Price}
 use Rattle.message.specs.declared.Side.{Side}
 use Rattle.message.specs.declared.Side.the-variants.{Bid, Ask}
 use Rattle.message.specs.declared.LongNumbers.{LongNumbers}
@@ -130,8 +131,9 @@ module _ (xs : List ℕ) {state : ℕ} {quoting : Bool} (e : state ≡ be (part 
   unfolding takesQuote tradableOf values
   state-allows g h = rw (← e, ← f, g, h)
 
-pub price-read : (xs : List ℕ) (side : Side) {at price : ℕ} → at ≡ sideAt side → price ≡ be (part xs (at + 4) 4) → price ≡ priceOf side xs
-price-read xs side e f = rw e at f
+pub price-read : (xs : List ℕ) (side : Side) {at n : ℕ} {price : Price} → at ≡ sideAt side → n ≡ be (part xs (at + 4) 4) → price ≡ priceFrom n
+    → price ≡ priceOf side xs
+price-read xs side e f g = g ∙ ap priceFrom (rw e at f)
 
 pub side-keeps : (xs : List ℕ) (side : Side) {at sides : ℕ} {seen zero low : Bool} → at ≡ sideAt side → sides ≡ be (part xs 54 1)
     → seen ≡ hasSeen side sides → zero ≡ every isZero (part xs at 20) → low ≡ priceInRange (be (part xs (at + 4) 4))

@@ -15,13 +15,14 @@ use Rattle.field.proofs.Parts.{overlay-length, overlay-swap, part-after, part-b
 use Rattle.field.proofs.Numbers.{Lent, lent-bytes}
 use Rattle.field.proofs.Same.{part-numbers, fields-same}
 use Rattle.field.proofs.Writes.{carried-run}
-use Rattle.message.specs.Layout.{bytesFor, values}
+use Rattle.message.specs.Layout.{priceFrom, bytesFor, values}
 use Rattle.message.specs.Feed.{letterAmong}
 use Rattle.message.specs.Letters.{stampRows, stampFields, longNumbersRows, longNumbersFields, instrumentRows, instrumentFields}
 use Rattle.message.specs.Test.{quoteLetters, quoteLength}
 use Rattle.message.specs.declared.LongNumbers.{LongNumbers}
 use Rattle.message.specs.declared.Side.{Side}
 use Rattle.message.specs.declared.Side.the-variants.{Bid, Ask}
+use Rattle.message.proofs.Amounts.{amount-from}
 use Rattle.message.proofs.Layouts.{fields-run}
 use Rattle.message.proofs.Tested.{quotes, quote-none}
 use Rattle.message.proofs.Puts.{long-numbers-put}
@@ -30,6 +31,7 @@ use Rattle.row.specs.Changes.{changed, purge, directoryChanges, unchange
 use Rattle.row.specs.Wire.{stampIn, longIn, shortIn, actionIn, instrumentIn, textsIn, directoryIn, sidesIn, quoteIn}
 use Rattle.row.specs.declared.Sides.{Sides}
 use Rattle.row.specs.declared.Sides.the-variants.{One, Both}
+use Rattle.row.proofs.Quoted.{widened-amount}
 use Rattle.row.proofs.Puts.{action-put, directory-put, directory-kept, quote-put}
 
 -- ---- fields side by side
@@ -68,7 +70,7 @@ pub short-wired : (xs bs : List ℕ) (at from : ℕ) {a b p d e f : ℕ} {us vs 
     → zs ≡ overlay xs at (bytesFor (longNumbersRows at) (longNumbersFields (shortIn from bs)))
 unfolding values
 short-wired xs bs at from h i e j k f l g m o n q =
-    long-numbers-put xs at (shortIn from bs) h (rw i at e) (rw (k, j) at f) (rw l at g) (rw m at o) (rw n at q)
+    long-numbers-put xs at (shortIn from bs) (k ∙ ap tenThousandths (j ∙ sym (amount-from (be (part bs (from + 2) 2)))) ∙ sym (widened-amount (priceFrom (be (part bs (from + 2) 2))))) h (rw i at e) f (rw l at g) (rw m at o) (rw n at q)
 
 -- ---- a trading action, a directory
 

@@ -10,7 +10,12 @@ use Rattle.field.specs.Limits.{tenThousandths}
 use Rattle.message.specs.Layout.{bytesFor}
 use Rattle.message.specs.Letters.{stampRows, stampFields, longNumbersRows, longNumbersFields, instrumentRows, instrumentFields, entrySize}
 use Rattle.message.specs.declared.Stamp.{Stamp}
+use Rattle.message.specs.declared.Side.{Side}
 use Rattle.message.specs.declared.Side.the-variants.{Bid, Ask}
+use Rattle.message.specs.declared.Price.{Price}
+use Rattle.message.specs.declared.Price.the-variants as long
+use Rattle.message.specs.declared.ShortPrice.{ShortPrice}
+use Rattle.message.specs.declared.ShortPrice.the-variants as short
 use Rattle.message.specs.declared.ShortNumbers.{ShortNumbers}
 use Rattle.message.specs.declared.LongNumbers.{LongNumbers}
 use Rattle.message.specs.declared.Instrument.{Instrument}
@@ -111,11 +116,15 @@ actionChanges a = stateChange (a .state) ∷ stampChange (a .stamp) ∷ []
 -- ---- a quote
 
 -- the table keeps ten-thousandths: short prices are pennies
+abbrev pub widenedPrice : ShortPrice → Price
+widenedPrice (short.Above n) = long.Above (tenThousandths n)
+widenedPrice short.None = long.None
+
 abbrev pub widened : ShortNumbers → LongNumbers
 widened n =
     record {
       market = n .market;
-      price = tenThousandths (n .price);
+      price = widenedPrice (n .price);
       size = n .size;
       customer = n .customer;
       professional = n .professional;
@@ -129,6 +138,19 @@ sidesChanges (Both bid ask) seen =
 
 unfoldable pub quoteChanges : Quote → List ℕ → List Change
 quoteChanges q r = conditionChange (q .condition) ∷ stampChange (q .stamp) ∷ sidesChanges (q .sides) (sidesOf r)
+
+-- the numbers that it sets a side to, or none
+pub data Quoted : Type 0 where
+  quoted : LongNumbers → Quoted
+  unquoted : Quoted
+
+abbrev pub quotedBy : Sides → Side → Quoted
+quotedBy (One Bid n) Bid = quoted n
+quotedBy (One Bid n) Ask = unquoted
+quotedBy (One Ask n) Bid = unquoted
+quotedBy (One Ask n) Ask = quoted n
+quotedBy (Both bid ask) Bid = quoted bid
+quotedBy (Both bid ask) Ask = quoted ask
 
 -- ---- which bytes of a row a message may change
 

@@ -5,10 +5,11 @@ use mathlib.Core.Bool.{Bool, _&&_, cond}
 use mathlib.Core.List.{List, [], _∷_}
 use lib.Dec.{eqb}
 use Rattle.field.specs.Bytes.{part, be}
-use Rattle.message.specs.Layout.{values}
+use Rattle.message.specs.Layout.{priceFrom, values}
 use Rattle.message.specs.Letters.{listed, entryRows, instrumentOf, textsOf, entrySize}
 use Rattle.message.specs.declared.Instrument.{Instrument}
 use Rattle.message.specs.declared.Texts.{Texts}
+use Rattle.message.specs.declared.Price.{Price}
 use Rattle.message.specs.declared.Side.{Side}
 use Rattle.message.specs.declared.Side.the-variants.{Bid, Ask}
 
@@ -58,8 +59,12 @@ other Ask = Bid
 abbrev pub numbersOf : Side → List ℕ → List ℕ
 numbersOf side r = part r (sideAt side) 20
 
-abbrev pub priceOf : Side → List ℕ → ℕ
-priceOf side r = be (part r (sideAt side + 4) 4)
+-- the number that stands there, and the price that it says: 0 says none (W-206)
+abbrev pub amountOf : Side → List ℕ → ℕ
+amountOf side r = be (part r (sideAt side + 4) 4)
+
+abbrev pub priceOf : Side → List ℕ → Price
+priceOf side r = priceFrom (amountOf side r)
 
 -- 96-97, 98-105: tracking and time of the row's latest message
 abbrev pub timeOf : List ℕ → ℕ

@@ -11,7 +11,7 @@ use Rattle.message.specs.Layout.{values, keepsAll}
 use Rattle.message.specs.Letters.{listed, entryRows, states, conditions}
 use Rattle.message.specs.declared.Side.{Side}
 use Rattle.message.specs.declared.Side.the-variants.{Bid, Ask}
-use Rattle.row.specs.Fields.{stateOf, conditionOf, sidesOf, numbersOf, priceOf, timeOf, hasSeen}
+use Rattle.row.specs.Fields.{stateOf, conditionOf, sidesOf, numbersOf, amountOf, timeOf, hasSeen}
 
 -- directory fields as for `m`
 unfoldable pub entryKeeps : List ℕ → Bool
@@ -23,7 +23,7 @@ marksKeep r = listed (0 ∷ states) (stateOf r) && (listed conditions (condition
 
 -- an unseen side all zero; prices with the top bit clear
 unfoldable pub sideKeeps : Side → List ℕ → Bool
-sideKeeps side r = (hasSeen side (sidesOf r) || every isZero (numbersOf side r)) && priceInRange (priceOf side r)
+sideKeeps side r = (hasSeen side (sidesOf r) || every isZero (numbersOf side r)) && priceInRange (amountOf side r)
 
 -- condition space when nothing is seen
 unfoldable pub bareKeeps : List ℕ → Bool

@@ -1,5 +1,7 @@
 // The fields of a row that others look at.
+use message::Price;
 use message::Side;
+use message::prices;
 ghost use mathlib.Core.Path.{_≡_};
 ghost use Prim.Native.Nat.{_≤_};
 ghost use lib.ListN.{length};
@@ -36,12 +38,12 @@ pub fn side_at(side: Side) -> usize
     }
 }
 
-pub fn price(row: &[u8], side: Side) -> u32
+pub fn price(row: &[u8], side: Side) -> Price
     requires { ⌜ rowSize ≤ length (now row) ⌝ }
     ensures { λ r. ⌜ r ≡ priceOf side (now (row .entry)) ⌝ }
 {
     let at = side_at(side);
-    field::read4(row, at + 4)
+    prices::long(field::read4(row, at + 4))
 }
 
 // Is the side among those that the sum names?

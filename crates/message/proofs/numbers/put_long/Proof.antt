@@ -11,11 +11,12 @@ returns c =
     let s4 = s5 .before .before .before .before in
     let s3 = s4 .before .before .before .before in
     let s2 = s3 .before .before .before .before in
-    let s1 = s2 .before .before .before .before in
+    let price = s2 .before in
+    let s1 = price .before .before .before .before in
     let s0 = s1 .before .before .before in
-    long-numbers-put (s0 .args .out .now) (s0 .args .at) (s0 .args .n) (s0 .pre) (s1 .write4 .ensures) (s2 .write42 .ensures) (s3 .write43 .ensures) (s4 .write44 .ensures) (s5 .write45 .ensures)
+    long-numbers-put (s0 .args .out .now) (s0 .args .at) (s0 .args .n) (price .amount .ensures) (s0 .pre) (s1 .write4 .ensures) (s2 .write42 .ensures) (s3 .write43 .ensures) (s4 .write44 .ensures) (s5 .write45 .ensures)
 
 pub put-long-spec : {M : Type 1} → statement M
 put-long-spec =
     tie.close
-    (tie.spec (λ c κs. search needs) (λ c. search needs) (λ c κs. search needs) (λ c. search needs) (λ c κs. search needs) (λ c. search needs) (λ c κs. search needs) (λ c. search needs) (λ c κs. search needs) (λ c. search needs) returns)
+    (tie.spec (λ c κs. search needs) (λ c. search needs) (λ c κs. search needs) (λ c κs. search needs) (λ c. search needs) (λ c κs. search needs) (λ c. search needs) (λ c κs. search needs) (λ c. search needs) (λ c κs. search needs) (λ c. search needs) returns)

@@ -2,14 +2,19 @@
 -- Assumes nothing.
 use mathlib.Core.Path.{refl}
 use borrow.Author.Needs.{needs}
-use Rattle.message.specs.Layout.{keepsAll}
-use Rattle.message.proofs.Ways.{head-kept}
+use Rattle.message.specs.Layout.{priced, price, holds, keepsAll}
+use Rattle.message.specs.Letters.{anything, longPrice}
+use Rattle.message.proofs.Ways.{side-kept}
 use Rattle.message.proofs.rules.keep_short_side.Statement.{statement}
 use Rattle.message.proofs.rules.keep_short_side.Tie as tie
 
 returns : tie.Need-returns
 unfolding keepsAll
-returns c = let m = c .before .args .m in head-kept (m .stamp .time) (m .condition) (c .keep-head .ensures) _ refl
+returns c =
+    let m = c .before .before .before .args .m in
+    side-kept (m .stamp .time) (m .condition) (c .before .keep-head .ensures) _ (holds (price anything) (priced (longPrice (m .numbers .price)))) refl (c .keep-short .ensures)
 
 pub keep-short-side-spec : {M : Type 1} → statement M
-keep-short-side-spec = tie.close (tie.spec (λ c κs. search needs) returns)
+keep-short-side-spec =
+    tie.close
+    (tie.spec (λ c κs. search needs) (λ c κs. search needs) returns)

@@ -5,6 +5,7 @@ use borrow.Author.Needs.{needs}
 use Rattle.message.specs.Layout.{values, keepsAll}
 use Rattle.message.specs.Feed.{letterAmong}
 use Rattle.message.specs.Letters.{letters}
+use Rattle.message.proofs.Amounts.{from-is-price}
 use Rattle.message.proofs.Table.{last-arm}
 use Rattle.record.specs.Places.{recordLetters}
 use Rattle.record.proofs.Sent.{event-kept, directory-kept, action-kept, short-kept, long-kept, bid-kept, ask-kept, number-kept}
@@ -22,18 +23,18 @@ returns-3 c = action-kept (c .before .before .before .before .before .args .lett
 
 returns-4 : tie.Need-returns-4
 unfolding letters recordLetters letterAmong keepsAll values
-returns-4 c = short-kept (c .before .before .before .args .letter) (c .before .before .before .args .kept .now) (c .head-keeps .ensures) 113 (c .before .match .keys4) (simp and-true)
+returns-4 c = short-kept (c .before .before .before .args .letter) (c .before .before .before .args .kept .now) (c .head-keeps .ensures) 113 (c .before .match .keys4) (simp (from-is-price, and-true))
 
 returns-5 : tie.Need-returns-5
 returns-5 c = long-kept (c .before .before .before .before .before .args .letter) (c .before .before .before .before .before .args .kept .now) (c .before .before .head-keeps2 .ensures) (c .before .before .before .match .keys5) (c .before .price-keeps .ensures) (c .price-keeps2 .ensures)
 
 returns-6 : tie.Need-returns-6
 unfolding letters recordLetters letterAmong keepsAll values
-returns-6 c = short-kept (c .before .before .before .args .letter) (c .before .before .before .args .kept .now) (c .head-keeps3 .ensures) 98 (c .before .match .keys6) (simp and-true)
+returns-6 c = short-kept (c .before .before .before .args .letter) (c .before .before .before .args .kept .now) (c .head-keeps3 .ensures) 98 (c .before .match .keys6) (simp (from-is-price, and-true))
 
 returns-7 : tie.Need-returns-7
 unfolding letters recordLetters letterAmong keepsAll values
-returns-7 c = short-kept (c .before .before .before .args .letter) (c .before .before .before .args .kept .now) (c .head-keeps4 .ensures) 97 (c .before .match .keys7) (simp and-true)
+returns-7 c = short-kept (c .before .before .before .args .letter) (c .before .before .before .args .kept .now) (c .head-keeps4 .ensures) 97 (c .before .match .keys7) (simp (from-is-price, and-true))
 
 returns-8 : tie.Need-returns-8
 returns-8 c = bid-kept (c .before .before .before .before .args .letter) (c .before .before .before .before .args .kept .now) (c .before .head-keeps5 .ensures) (c .before .before .match .keys8) (c .price-keeps3 .ensures)

@@ -9,4 +9,4 @@ returns : tie.Need-returns
 returns c = search (price-read, needs)
 
 pub price-spec : {M : Type 1} → statement M
-price-spec = tie.close (tie.spec (λ c κs. search needs) (λ c. search needs) (λ c κs. search needs) returns)
+price-spec = tie.close (tie.spec (λ c κs. search needs) (λ c. search needs) (λ c κs. search needs) (λ c κs. search needs) returns)
