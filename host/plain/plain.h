@@ -52,6 +52,9 @@ enum plain_kind {
 
 enum plain_which { PLAIN_BID, PLAIN_ASK };
 
+/* A side's price is 0 exactly where it has none: nobody bids, or nobody offers.
+ * So no record can hold zero as a price above zero. A strike of 0 is a number. */
+
 struct plain_short_side {
     uint16_t market, price, size, customer, professional; /* price in pennies */
 };

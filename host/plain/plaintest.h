@@ -39,6 +39,9 @@ void feed(struct bench *b, const uint8_t *piece, size_t n);
 
 void expect_row(const struct bench *b, size_t k, const uint8_t *row, size_t n);
 
+/* The listing's text, with room for it and a byte short. */
+void expect_listing(const struct bench *b, const char *wanted);
+
 /* Fills the table by hand-made rows with ids 1000 on. */
 void fill_up(struct bench *b);
 
@@ -73,7 +76,12 @@ void fill_up(struct bench *b);
 #define ASK_LONG(id) "\x00\x25" "SA" "\x00\x08" TIME id " " LONG_ASK
 #define REPLAY_END "\x00\x16" "SM" "123456" "              "
 
-/* The same sides as a row keeps them. */
+/* Sides with no price, their other numbers not zero; a row keeps both as the long one. */
+#define SHORT_NONE "\x00\x09" "\x00\x00" "\x00\x0A" "\x00\x04" "\x00\x01"
+#define LONG_NONE \
+    "\x00\x00\x00\x09" "\x00\x00\x00\x00" "\x00\x00\x00\x0A" "\x00\x00\x00\x04" "\x00\x00\x00\x01"
+
+/* The first two short sides as a row keeps them. */
 #define ROW_SHORT_BID \
     "\x00\x00\x00\x00" "\x00\x00\x30\xD4" "\x00\x00\x00\x0A" "\x00\x00\x00\x04" "\x00\x00\x00\x01"
 #define ROW_SHORT_ASK \

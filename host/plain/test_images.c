@@ -43,6 +43,24 @@ static void resume_everywhere(void)
     }
 }
 
+/* Seen sides with no price are saved and restored as they are: none stays none,
+ * and a quote then goes on from there. */
+static void no_prices_restored(void)
+{
+    struct bench b, again;
+    start(&b);
+    feed(&b, LITERAL(LOGIN DIRECTORY(ID7, "Y") DIRECTORY(ID_MAX, "Y") STATE(ID7, "T") STATE(ID_MAX, "T")
+                     "\x00\x39" "SQ" "\x00\x04" TIME ID7 " " LONG_NONE LONG_NONE
+                     "\x00\x1B" "Sa" "\x00\x06" TIME ID_MAX " " SHORT_NONE));
+    expect_listing(&b, "next 7\n7 T none none\n4294967295 T - none\nok\n");
+    reopen(&b, &again);
+    expect_row(&again, 0, LITERAL(ROW(ID7, "Y", "T", " ", "\3", LONG_NONE, LONG_NONE, "\4")));
+    expect_row(&again, 1, LITERAL(ROW(ID_MAX, "Y", "T", " ", "\2", NO_SIDE, LONG_NONE, "\6")));
+    expect_listing(&again, "next 7\n7 T none none\n4294967295 T - none\nok\n");
+    feed(&again, LITERAL(BID_SHORT(ID7) ASK_LONG(ID_MAX)));
+    expect_listing(&again, "next 9\n7 T 1.2500 none\n4294967295 T - 1.2501\nok\n");
+}
+
 /* Saving inside a packet and after a refusal: neither is saved. */
 static void save_mid_packet(void)
 {
@@ -326,6 +344,7 @@ static void full_image(void)
 void test_images(void)
 {
     resume_everywhere();
+    no_prices_restored();
     save_mid_packet();
     images();
     saves_refused();

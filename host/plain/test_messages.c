@@ -1,4 +1,5 @@
 /* Tests of single messages: their fields, read and written. */
+#include "parts.h"
 #include "plaintest.h"
 
 /* Which numbers of twenty characters a login and an end of replay take. */
@@ -243,6 +244,57 @@ static void records(void)
     EXPECT(m.kind == PLAIN_STATE && m.state == 'T' && m.id == 7 && m.tracking == 2, "H's fields");
 }
 
+/* A price as its record has it, none as 0; both sides of a quote have the same. */
+static uint32_t price_in(const struct plain_message *m)
+{
+    switch (m->kind) {
+    case PLAIN_BOTH_SHORT:
+        EQUAL(m->both_short.bid.price, m->both_short.ask.price, "both prices");
+        return m->both_short.bid.price;
+    case PLAIN_BOTH_LONG:
+        EQUAL(m->both_long.bid.price, m->both_long.ask.price, "both prices");
+        return m->both_long.bid.price;
+    case PLAIN_ONE_SHORT:
+        return m->one_short.side.price;
+    default:
+        return m->one_long.side.price;
+    }
+}
+
+/* A quote with one price on each of its sides: read, and written back the same. */
+static void price_case(size_t k, uint32_t price)
+{
+    uint8_t bytes[56], out[56];
+    struct plain_message m;
+    size_t n = true_messages[k].n, written;
+    char letter = true_messages[k].bytes[0];
+    size_t width = strchr("qba", letter) ? 2 : 4;
+    memcpy(bytes, true_messages[k].bytes, n);
+    set_number(bytes + 16 + width, width, price);
+    if (letter == 'q' || letter == 'Q')
+        set_number(bytes + 16 + 6 * width, width, price);
+    EQUAL(plain_read(bytes, n, &m), 0, "a price read");
+    EQUAL(price_in(&m), price, "a price");
+    EQUAL(plain_write(&m, out, sizeof out, &written), 0, "a price written");
+    EXPECT(written == n && memcmp(bytes, out, n) == 0, "the same bytes");
+}
+
+/* None, 1 and the highest of the form, in each letter; and a strike of 0. */
+static void prices(void)
+{
+    uint8_t bytes[63];
+    struct plain_message m;
+    for (size_t k = 3; k <= 8; k++) {
+        price_case(k, 0);
+        price_case(k, 1);
+        price_case(k, strchr("qba", true_messages[k].bytes[0]) ? 0xFFFF : 0x7FFFFFFF);
+    }
+    memcpy(bytes, true_messages[1].bytes, 63);
+    memset(bytes + 26, 0, 4);
+    EQUAL(plain_read(bytes, 63, &m), 0, "a strike of 0");
+    EQUAL(m.directory.strike, 0, "a strike of 0 is a number");
+}
+
 /* Writing gives back the bytes; 26 comes before 25; neither writes. */
 static void writing(void)
 {
@@ -317,6 +369,7 @@ void test_messages(void)
     texts();
     times();
     records();
+    prices();
     writing();
     records_broken();
 }

@@ -1,4 +1,5 @@
 /* Tests of reading: packets, rows, refusals, the listing, and cuts. */
+#include "parts.h"
 #include "plaintest.h"
 
 /* C1 to C7. */
@@ -57,20 +58,6 @@ static void small_fields(void)
                              "\0\0\0\0\0\0\0\0\0\0\0\0"), &m), 12, "C11 out of range");
 }
 
-static void expect_listing(const struct bench *b, const char *wanted)
-{
-    char text[PLAIN_LISTING_BYTES + 1];
-    size_t n = 0, length = strlen(wanted);
-    memset(text, '#', sizeof text);
-    EQUAL(plain_listing(&b->r, b->table, sizeof b->table, text, length - 1, &n), 25, "listing too short");
-    EXPECT(n == 0 && text[0] == '#', "a listing that does not fit writes nothing");
-    EQUAL(plain_listing(&b->r, b->table, sizeof b->table, text, length, &n), 0, "listing");
-    EQUAL(n, length, "listing's length");
-    EXPECT(memcmp(text, wanted, length) == 0, "listing's text");
-    EQUAL(text[length], '#', "nothing past the listing");
-    EQUAL(plain_listing(&b->r, b->table, sizeof b->table - 1, text, sizeof text, &n), 20, "listing 20");
-}
-
 static void listings(void)
 {
     struct bench b;
@@ -99,8 +86,13 @@ static void listed_prices(void)
     static const struct {
         const char *bid, *ask, *wanted;
     } cases[] = {
-        {"\0\0\0\0", "\0\0", "next 5\n7 T 0.0000 0.0000\nok\n"},
+        {"\0\0\0\0", "\0\0", "next 5\n7 T none none\nok\n"},
         {"\0\0\0\1", "\0\1", "next 5\n7 T 0.0001 0.0100\nok\n"},
+        {"\0\0\0\0", "\0\1", "next 5\n7 T none 0.0100\nok\n"},
+        {"\0\0\0\1", "\0\0", "next 5\n7 T 0.0001 none\nok\n"},
+        {"\0\0\1\0", "\1\0", "next 5\n7 T 0.0256 2.5600\nok\n"},
+        {"\0\1\0\0", "\xFF\xFF", "next 5\n7 T 6.5536 655.3500\nok\n"},
+        {"\1\0\0\0", "\x80\0", "next 5\n7 T 1677.7216 327.6800\nok\n"},
         {"\0\0\x03\xE8", "\0\x0A", "next 5\n7 T 0.1000 0.1000\nok\n"},
         {"\0\0\x27\x0F", "\0\x63", "next 5\n7 T 0.9999 0.9900\nok\n"},
         {"\0\0\x27\x10", "\0\x64", "next 5\n7 T 1.0000 1.0000\nok\n"},
@@ -117,6 +109,95 @@ static void listed_prices(void)
         feed(&b, ask, sizeof ask - 1);
         expect_listing(&b, cases[k].wanted);
     }
+}
+
+/* A form of a quote: how wide its numbers are, and where its packet has the
+ * prices of bid and ask, 0 for a side that it lacks. */
+struct form {
+    const char *packet;
+    size_t n, width, bid, ask;
+};
+
+/* Prices none, 1 and the highest of the form, on the sides that it has. */
+static void listed_form(const struct form *f, size_t bid, size_t ask)
+{
+    static const char *const short_words[] = {"none", "0.0100", "655.3500"};
+    static const char *const long_words[] = {"none", "0.0001", "214748.3647"};
+    const char *const *words = f->width == 2 ? short_words : long_words;
+    const uint64_t prices[] = {0, 1, f->width == 2 ? 0xFFFF : 0x7FFFFFFF};
+    uint8_t packet[59];
+    char wanted[64];
+    struct bench b;
+    memcpy(packet, f->packet, f->n);
+    if (f->bid != 0)
+        set_number(packet + f->bid, f->width, prices[bid]);
+    if (f->ask != 0)
+        set_number(packet + f->ask, f->width, prices[ask]);
+    start(&b);
+    feed(&b, LITERAL(LOGIN DIRECTORY(ID7, "Y") STATE(ID7, "T")));
+    feed(&b, packet, f->n);
+    snprintf(wanted, sizeof wanted, "next 4\n7 T %s %s\nok\n",
+             f->bid != 0 ? words[bid] : "-", f->ask != 0 ? words[ask] : "-");
+    expect_listing(&b, wanted);
+}
+
+static void listed_forms(void)
+{
+    static const struct form forms[] = {
+        {BOTH_SHORT(ID7), 39, 2, 21, 31}, {BOTH_LONG(ID7), 59, 4, 23, 43},
+        {BID_SHORT(ID7), 29, 2, 21, 0},   {ASK_SHORT(ID7), 29, 2, 0, 21},
+        {BID_LONG(ID7), 39, 4, 23, 0},    {ASK_LONG(ID7), 39, 4, 0, 23},
+    };
+    for (size_t k = 0; k < sizeof forms / sizeof *forms; k++)
+        for (size_t prices = 0; prices < 9; prices++)
+            listed_form(&forms[k], prices / 3, prices % 3);
+}
+
+/* A side goes from a price to none and back, and the other keeps every byte; a
+ * purge makes both unseen. */
+static void prices_come_and_go(void)
+{
+    struct bench b;
+    start(&b);
+    feed(&b, LITERAL(LOGIN DIRECTORY(ID7, "Y") STATE(ID7, "T") BOTH_SHORT(ID7)));
+    expect_listing(&b, "next 4\n7 T 1.2500 655.3500\nok\n");
+    feed(&b, LITERAL("\x00\x1B" "Sb" "\x00\x05" TIME ID7 " " SHORT_NONE));
+    expect_row(&b, 0, LITERAL(ROW(ID7, "Y", "T", " ", "\3", LONG_NONE, ROW_SHORT_ASK, "\5")));
+    expect_listing(&b, "next 5\n7 T none 655.3500\nok\n");
+    feed(&b, LITERAL("\x00\x25" "SA" "\x00\x08" TIME ID7 "X" LONG_NONE));
+    expect_row(&b, 0, LITERAL(ROW(ID7, "Y", "T", "X", "\3", LONG_NONE, LONG_NONE, "\x08")));
+    expect_listing(&b, "next 6\n7 T none none\nok\n");
+    feed(&b, LITERAL(BID_LONG(ID7)));
+    expect_listing(&b, "next 7\n7 T 214748.3647 none\nok\n");
+    feed(&b, LITERAL(ASK_SHORT(ID7) STATE(ID7, "H")));
+    expect_listing(&b, "next 9\n7 H 214748.3647 655.3500\nok\n");
+    feed(&b, LITERAL(STATE(ID7, "T") "\x00\x25" "Sq" "\x00\x03" TIME ID7 " " SHORT_NONE SHORT_NONE));
+    expect_row(&b, 0, LITERAL(ROW(ID7, "Y", "T", " ", "\3", LONG_NONE, LONG_NONE, "\3")));
+    expect_listing(&b, "next 11\n7 T none none\nok\n");
+    feed(&b, LITERAL(DIRECTORY(ID7, "N")));
+    expect_listing(&b, "next 12\n7 T - -\nok\n");
+}
+
+/* Whether a side was seen is asked first, whatever its bytes are; a strike of 0
+ * is no price, and its row is listed as any other. */
+static void sides_unseen(void)
+{
+    uint8_t directory[] = DIRECTORY(ID7, "Y");
+    struct bench b;
+    memset(directory + 3 + 26, 0, 4);
+    start(&b);
+    feed(&b, LITERAL(LOGIN));
+    feed(&b, directory, sizeof directory - 1);
+    expect_listing(&b, "next 2\n7 - - -\nok\n");
+    b.table[54] = 1;
+    expect_listing(&b, "next 2\n7 - none -\nok\n");
+    b.table[54] = 2;
+    expect_listing(&b, "next 2\n7 - - none\nok\n");
+    b.table[63] = 1;
+    expect_listing(&b, "next 2\n7 - - none\nok\n");
+    b.table[54] = 0xFC;
+    b.table[83] = 1;
+    expect_listing(&b, "next 2\n7 - - -\nok\n");
 }
 
 static void longest_listing(void)
@@ -483,10 +564,10 @@ static void quotes_by_state(void)
         {BID_LONG(ID7), 39, ROW(ID7, "Y", "T", "X", "\1", LONG_BID, NO_SIDE, "\7")},
         {ASK_LONG(ID7), 39, ROW(ID7, "Y", "T", " ", "\2", NO_SIDE, LONG_ASK, "\x08")},
     };
-    static const char states[] = {0, 'B', 'S', 'H', 'T', 'I', 'O', 'R', 'X'};
+    static const char none_and_all[] = {0, 'B', 'S', 'H', 'T', 'I', 'O', 'R', 'X'};
     for (size_t k = 0; k < sizeof quotes / sizeof *quotes; k++)
-        for (size_t i = 0; i < sizeof states; i++)
-            quote_in(states[i], &quotes[k]);
+        for (size_t i = 0; i < sizeof none_and_all; i++)
+            quote_in(none_and_all[i], &quotes[k]);
 }
 
 /* States that follow each other: quotes stay through those that take none, and
@@ -693,6 +774,9 @@ void test_reading(void)
     small_fields();
     listings();
     listed_prices();
+    listed_forms();
+    prices_come_and_go();
+    sides_unseen();
     longest_listing();
     plain_events();
     rows_change();
