@@ -49,7 +49,7 @@ static uint32_t step(const uint8_t *piece, size_t n)
 static void test_sizes(void)
 {
     EQUAL(nelqubat_is_version(), 1);
-    EQUAL(NELQUBAT_VERSION, 2);
+    EQUAL(NELQUBAT_VERSION, 3);
     EQUAL(NELQUBAT_HANDLE_BYTES, nelqubat_handle_size());
     EQUAL(NELQUBAT_TABLE_BYTES, nelqubat_table_size());
     EQUAL(NELQUBAT_RECORD_BYTES, nelqubat_record_size());
@@ -157,6 +157,49 @@ static void same_quote(const uint8_t *r, const struct plain_message *m)
     }
 }
 
+/* A message's side: whether it sets it, and its price in ten-thousandths. */
+struct quoted {
+    bool is_set;
+    uint32_t price;
+};
+
+static struct quoted in_pennies(const struct plain_short_side *s)
+{
+    return (struct quoted){true, s->price * UINT32_C(100)};
+}
+
+static struct quoted in_parts(const struct plain_long_side *s)
+{
+    return (struct quoted){true, s->price};
+}
+
+static struct quoted side_of(const struct plain_message *m, enum plain_which which)
+{
+    const struct quoted not_set = {false, 0};
+    switch (m->kind) {
+    case PLAIN_BOTH_SHORT:
+        return in_pennies(which == PLAIN_BID ? &m->both_short.bid : &m->both_short.ask);
+    case PLAIN_BOTH_LONG:
+        return in_parts(which == PLAIN_BID ? &m->both_long.bid : &m->both_long.ask);
+    case PLAIN_ONE_SHORT:
+        return m->one_short.which == which ? in_pennies(&m->one_short.side) : not_set;
+    case PLAIN_ONE_LONG:
+        return m->one_long.which == which ? in_parts(&m->one_long.side) : not_set;
+    default:
+        return not_set;
+    }
+}
+
+static void same_prices(const uint8_t *r, struct quoted bid, struct quoted ask)
+{
+    EQUAL(nelqubat_record_quotes_bid(r), bid.is_set);
+    EQUAL(nelqubat_record_quotes_ask(r), ask.is_set);
+    EQUAL(nelqubat_record_bid_price(r), bid.price);
+    EQUAL(nelqubat_record_ask_price(r), ask.price);
+    EQUAL(nelqubat_record_has_bid(r), bid.price != 0);
+    EQUAL(nelqubat_record_has_ask(r), ask.price != 0);
+}
+
 /* A record that the library made, and the plain reader's message. */
 static void same_message(const uint8_t *r, const struct plain_message *m)
 {
@@ -164,6 +207,7 @@ static void same_message(const uint8_t *r, const struct plain_message *m)
     EQUAL(nelqubat_record_id(r), m->id);
     EQUAL(nelqubat_record_time(r), m->time);
     EQUAL(nelqubat_record_number(r), m->kind == PLAIN_REPLAY_END ? m->number : 0);
+    same_prices(r, side_of(m, PLAIN_BID), side_of(m, PLAIN_ASK));
     if (m->kind == PLAIN_SYSTEM_EVENT) {
         EQUAL(nelqubat_record_letter(r), 'S');
         EQUAL(nelqubat_record_code(r), m->code);
@@ -197,6 +241,30 @@ static void test_records(void)
     }
 }
 
+/* Prices none, 1 and others in bytes with any letter, whether they are a record or
+ * not: a side that the letter does not set has none, whatever stands there. */
+static void test_record_prices(void)
+{
+    static const uint32_t prices[] = {0, 1, 0xFFFF, 0x7FFFFFFF};
+    memset(record, 0xFF, sizeof record);
+    for (unsigned i = 0; i < 256 * 16; i++) {
+        uint8_t letter = (uint8_t)(i / 16);
+        uint32_t bid = prices[i / 4 % 4], ask = prices[i % 4];
+        uint32_t unit = letter != 0 && strchr("qba", letter) ? 100 : 1;
+        struct quoted b = {letter != 0 && strchr("qQbB", letter), 0};
+        struct quoted a = {letter != 0 && strchr("qQaA", letter), 0};
+        record[NELQUBAT_RECORD_LETTER] = letter;
+        set_number(record + NELQUBAT_RECORD_BID + 4, 4, bid);
+        set_number(record + NELQUBAT_RECORD_ASK + 4, 4, ask);
+        b.price = b.is_set ? bid * unit : 0;
+        a.price = a.is_set ? ask * unit : 0;
+        same_prices(record, b, a);
+        EQUAL(nelqubat_price_at(record + NELQUBAT_RECORD_BID, unit), bid * unit);
+        EQUAL(nelqubat_record_bid(record).price, bid * unit);
+        EQUAL(nelqubat_record_ask(record).price, ask * unit);
+    }
+}
+
 /* Rows, handles and answers, over sessions. */
 
 static void same_row_side(struct nelqubat_side s, const uint8_t *at)
@@ -207,6 +275,55 @@ static void same_row_side(struct nelqubat_side s, const uint8_t *at)
     EQUAL(s.size, get_number(at + 8, 4));
     EQUAL(s.customer, get_number(at + 12, 4));
     EQUAL(s.professional, get_number(at + 16, 4));
+}
+
+/* A side as the listing has it, said by what the helpers answer. */
+static const char *side_word(char *word, size_t room, int is_seen, int has_price, uint32_t price)
+{
+    if (!is_seen)
+        return "-";
+    if (!has_price)
+        return "none";
+    snprintf(word, room, "%lu.%04lu", (unsigned long)price / 10000, (unsigned long)price % 10000);
+    return word;
+}
+
+/* The plain reader's listing of a table with this row alone has the words that the
+ * helpers say, and a price is the row's number, 0 exactly where there is none. */
+static void same_row_line(const uint8_t *row)
+{
+    static uint8_t alone[PLAIN_TABLE_BYTES];
+    struct plain_reader r = {.next = 1, .rows = 1};
+    char bid[16], ask[16], wanted[80], text[80];
+    size_t n;
+    memcpy(alone, row, PLAIN_ROW_BYTES);
+    EQUAL(plain_listing(&r, alone, sizeof alone, text, sizeof text, &n), 0);
+    snprintf(wanted, sizeof wanted, "next 1\n%lu %c %s %s\nok\n", (unsigned long)nelqubat_row_id(row),
+             nelqubat_row_state(row) == 0 ? '-' : nelqubat_row_state(row),
+             side_word(bid, sizeof bid, nelqubat_row_seen_bid(row), nelqubat_row_has_bid(row),
+                       nelqubat_row_bid_price(row)),
+             side_word(ask, sizeof ask, nelqubat_row_seen_ask(row), nelqubat_row_has_ask(row),
+                       nelqubat_row_ask_price(row)));
+    EQUAL(n, strlen(wanted));
+    SAME(text, wanted, n);
+    EQUAL(nelqubat_row_bid_price(row), nelqubat_row_seen_bid(row) ? get_number(row + ROW_BID + 4, 4) : 0);
+    EQUAL(nelqubat_row_ask_price(row), nelqubat_row_seen_ask(row) ? get_number(row + ROW_ASK + 4, 4) : 0);
+    EQUAL(nelqubat_row_has_bid(row), nelqubat_row_bid_price(row) != 0);
+    EQUAL(nelqubat_row_has_ask(row), nelqubat_row_ask_price(row) != 0);
+}
+
+/* Any sides seen, with prices none, 1, the highest and beyond. */
+static void test_row_prices(void)
+{
+    static const uint32_t prices[] = {0, 1, 0x7FFFFFFF, 0xFFFFFFFF};
+    uint8_t row[PLAIN_ROW_BYTES];
+    memset(row, 'T', sizeof row);
+    for (unsigned i = 0; i < 256 * 16; i++) {
+        row[ROW_SIDES] = (uint8_t)(i / 16);
+        set_number(row + ROW_BID + 4, 4, prices[i / 4 % 4]);
+        set_number(row + ROW_ASK + 4, 4, prices[i % 4]);
+        same_row_line(row);
+    }
 }
 
 static void same_row(const uint8_t *row, const uint8_t *plain)
@@ -225,8 +342,9 @@ static void same_row(const uint8_t *row, const uint8_t *plain)
     SAME(nelqubat_row_reserved(row), plain + ROW_RESERVED, 16);
     EQUAL(nelqubat_row_state(row), plain[ROW_STATE]);
     EQUAL(nelqubat_row_condition(row), plain[ROW_CONDITION]);
-    EQUAL(nelqubat_row_has_bid(row), plain[ROW_SIDES] % 2 == 1);
-    EQUAL(nelqubat_row_has_ask(row), plain[ROW_SIDES] / 2 == 1);
+    EQUAL(nelqubat_row_seen_bid(row), plain[ROW_SIDES] % 2 == 1);
+    EQUAL(nelqubat_row_seen_ask(row), plain[ROW_SIDES] / 2 == 1);
+    same_row_line(row);
     same_row_side(nelqubat_row_bid(row), plain + ROW_BID);
     same_row_side(nelqubat_row_ask(row), plain + ROW_ASK);
     EQUAL(nelqubat_row_tracking(row), get_number(plain + ROW_TRACKING, 2));
@@ -519,6 +637,8 @@ int main(void)
     test_sizes();
     test_numbers();
     test_records();
+    test_record_prices();
+    test_row_prices();
     test_run_parts();
     test_sessions();
     test_packet_refusals();

@@ -10,13 +10,14 @@
 
 static uint8_t handle[NELQUBAT_HANDLE_BYTES], table[NELQUBAT_TABLE_BYTES];
 
-/* A side as price and size; a side that was never quoted as a dash. */
-static void print_side(int is_seen, struct nelqubat_side side)
+/* A side as price and size; where it has no price as the listing does, `none` if it
+ * was quoted so and a dash if it never was. */
+static void print_side(int is_seen, int has_price, struct nelqubat_side side)
 {
-    if (is_seen)
+    if (has_price)
         printf(" %" PRIu32 ".%04" PRIu32 "x%" PRIu32, side.price / 10000, side.price % 10000, side.size);
     else
-        printf(" -");
+        printf(is_seen ? " none" : " -");
 }
 
 static void print_row(const uint8_t *row)
@@ -26,8 +27,8 @@ static void print_row(const uint8_t *row)
            (const char *)nelqubat_row_symbol(row), nelqubat_row_year(row), nelqubat_row_month(row),
            nelqubat_row_day(row), nelqubat_row_type(row), nelqubat_row_strike(row) / 10000,
            nelqubat_row_strike(row) % 10000, state == 0 ? '-' : state);
-    print_side(nelqubat_row_has_bid(row), nelqubat_row_bid(row));
-    print_side(nelqubat_row_has_ask(row), nelqubat_row_ask(row));
+    print_side(nelqubat_row_seen_bid(row), nelqubat_row_has_bid(row), nelqubat_row_bid(row));
+    print_side(nelqubat_row_seen_ask(row), nelqubat_row_has_ask(row), nelqubat_row_ask(row));
     putchar('\n');
 }
 

@@ -66,8 +66,11 @@ extern "C" {
  * answer mean or of a layout, and not where a rule of the feed lets other
  * messages in; nelqubat_is_version() asks the library for its own. 2 is 1 with
  * nelqubat_run, which brought NELQUBAT_CEILING and refusal 27: a program for 1
- * needs no change, only to be built anew. */
-#define NELQUBAT_VERSION 2
+ * needs no change, only to be built anew. 3 is 2 with `none` in the lines, and
+ * with helpers for prices; sizes, layouts, calls and refusals are as in 2. A
+ * program that asked nelqubat_row_has_bid whether a side was seen now asks
+ * nelqubat_row_seen_bid. */
+#define NELQUBAT_VERSION 3
 
 /* Sizes, in bytes. */
 enum {
@@ -288,14 +291,18 @@ uint32_t nelqubat_restore(uint8_t *handle, size_t handle_n,
                           uint8_t *table, size_t table_n,
                           const uint8_t *image, size_t image_n);
 
-/* Reads one message (no packet around it) into a record of 112 bytes.
+/* Reads one message (no packet around it) into a record of 112 bytes. A side's
+ * price of 0 is read as none, which the record holds as 0; a strike of 0 is a
+ * number.
  * Answer: 0, or 20 (record memory), 10, 11, 12, and then the record memory is
  * as it was. */
 uint32_t nelqubat_read(const uint8_t *bytes, size_t bytes_n,
                        uint8_t *record, size_t record_n);
 
 /* Writes the message of a record to the front of `out`; reading it again
- * gives the same record.
+ * gives the same record. A side with no price is written with price 0. A price
+ * above zero that holds zero would break its rule, but cannot be said in a record,
+ * since 0 is none.
  * Answer: the count written, or 20 (record memory), 26 (no record, or field
  * rules broken), 25 (out too short), and then `out` is as it was. Bytes of
  * `out` after the count are as they were. */
@@ -304,6 +311,8 @@ uint32_t nelqubat_write(const uint8_t *record, size_t record_n,
 
 /* Writes line k of the listing with its line feed, and no closing zero:
  * `next N` for 0, then a line for each row, then `ok`, `end` or `refused N`.
+ * A row's line has its id, its state, bid and ask: dollars with four decimals,
+ * `none` for a side that was quoted with price 0, `-` for one never quoted.
  * Answer: the count written, 0 for a k past the last line; or 20 (handle,
  * table, limits), 25 (out too short), and then `out` is as it was. */
 uint32_t nelqubat_line(const uint8_t *handle, size_t handle_n,
@@ -427,7 +436,8 @@ static inline uint8_t nelqubat_rejected_reason(const uint8_t *event)
 /* One side of a quote. Its price is in ten-thousandths of a dollar whatever
  * the message was; `price_on_wire` is the number that the message had, which is
  * in pennies for q, b and a. A row keeps ten-thousandths, so there both are the
- * same. */
+ * same. A price of 0 is none and never a number: nobody bids, or nobody offers.
+ * nelqubat_record_has_bid, nelqubat_row_has_bid and their like ask for it. */
 struct nelqubat_side {
     uint32_t market, price, size, customer, professional, price_on_wire;
 };
@@ -438,13 +448,20 @@ static inline uint32_t nelqubat_price_unit(uint8_t letter)
     return letter == 'q' || letter == 'b' || letter == 'a' ? 100 : 1;
 }
 
+/* The price of a side at its 20 bytes, counted in that unit, in ten-thousandths of
+ * a dollar; 0 for none. */
+static inline uint32_t nelqubat_price_at(const uint8_t *at, uint32_t unit)
+{
+    return (uint32_t)nelqubat_get(at + 4, 4) * unit;
+}
+
 /* A side from its 20 bytes, with prices counted in that unit. */
 static inline struct nelqubat_side nelqubat_side_at(const uint8_t *at, uint32_t unit)
 {
     struct nelqubat_side side;
     side.market = (uint32_t)nelqubat_get(at, 4);
     side.price_on_wire = (uint32_t)nelqubat_get(at + 4, 4);
-    side.price = side.price_on_wire * unit;
+    side.price = nelqubat_price_at(at, unit);
     side.size = (uint32_t)nelqubat_get(at + 8, 4);
     side.customer = (uint32_t)nelqubat_get(at + 12, 4);
     side.professional = (uint32_t)nelqubat_get(at + 16, 4);
@@ -452,7 +469,8 @@ static inline struct nelqubat_side nelqubat_side_at(const uint8_t *at, uint32_t 
 }
 
 /* Where each field of a message's record begins. The places are the same for
- * all letters; what a letter lacks is 0. */
+ * all letters; what a letter lacks is 0. A side's price stays a number in its
+ * place, where 0 is none and never a number; a strike of 0 is a number. */
 enum {
     NELQUBAT_RECORD_LETTER = 0,      /* 1: S m H q Q b a B A M */
     NELQUBAT_RECORD_CODE = 1,        /* 1: event code (S), state (H), condition (quotes) */
@@ -460,9 +478,9 @@ enum {
     NELQUBAT_RECORD_ID = 4,          /* 4: all but S and M */
     NELQUBAT_RECORD_TIME = 8,        /* 8: nanoseconds of the day, all but M */
     NELQUBAT_RECORD_NUMBER = 16,     /* 8: M */
-    NELQUBAT_RECORD_BID = 24,        /* 20: q b Q B, the price as on the wire */
+    NELQUBAT_RECORD_BID = 24,        /* 20: q b Q B, the price as on the wire, 0 for none */
     NELQUBAT_RECORD_ASK = 44,        /* 20: q a Q A, likewise */
-    NELQUBAT_RECORD_STRIKE = 64,     /* 4: from here on m only */
+    NELQUBAT_RECORD_STRIKE = 64,     /* 4: 0 is a number; from here on m only */
     NELQUBAT_RECORD_YEAR = 68,       /* 1 */
     NELQUBAT_RECORD_MONTH = 69,      /* 1 */
     NELQUBAT_RECORD_DAY = 70,        /* 1 */
@@ -503,6 +521,49 @@ static inline uint64_t nelqubat_record_time(const uint8_t *record)
 static inline uint64_t nelqubat_record_number(const uint8_t *record)
 {
     return nelqubat_get(record + NELQUBAT_RECORD_NUMBER, 8);
+}
+
+/* Whether the record's letter sets the bid, and whether it sets the ask. */
+
+static inline int nelqubat_record_quotes_bid(const uint8_t *record)
+{
+    uint8_t letter = nelqubat_record_letter(record);
+    return letter == 'q' || letter == 'Q' || letter == 'b' || letter == 'B';
+}
+
+static inline int nelqubat_record_quotes_ask(const uint8_t *record)
+{
+    uint8_t letter = nelqubat_record_letter(record);
+    return letter == 'q' || letter == 'Q' || letter == 'a' || letter == 'A';
+}
+
+/* A record's prices in ten-thousandths of a dollar, short and long alike; 0 where
+ * its letter does not set the side, or sets it with no price. */
+
+static inline uint32_t nelqubat_record_bid_price(const uint8_t *record)
+{
+    uint32_t unit = nelqubat_price_unit(nelqubat_record_letter(record));
+    const uint8_t *bid = record + NELQUBAT_RECORD_BID;
+    return nelqubat_record_quotes_bid(record) ? nelqubat_price_at(bid, unit) : 0;
+}
+
+static inline uint32_t nelqubat_record_ask_price(const uint8_t *record)
+{
+    uint32_t unit = nelqubat_price_unit(nelqubat_record_letter(record));
+    const uint8_t *ask = record + NELQUBAT_RECORD_ASK;
+    return nelqubat_record_quotes_ask(record) ? nelqubat_price_at(ask, unit) : 0;
+}
+
+/* Whether the record sets the side, and with a price above zero. */
+
+static inline int nelqubat_record_has_bid(const uint8_t *record)
+{
+    return nelqubat_record_bid_price(record) != 0;
+}
+
+static inline int nelqubat_record_has_ask(const uint8_t *record)
+{
+    return nelqubat_record_ask_price(record) != 0;
 }
 
 static inline struct nelqubat_side nelqubat_record_bid(const uint8_t *record)
@@ -581,7 +642,7 @@ enum {
     NELQUBAT_ROW_YEAR = 12,       /* 1 */
     NELQUBAT_ROW_MONTH = 13,      /* 1 */
     NELQUBAT_ROW_DAY = 14,        /* 1 */
-    NELQUBAT_ROW_STRIKE = 15,     /* 4 */
+    NELQUBAT_ROW_STRIKE = 15,     /* 4: 0 is a number */
     NELQUBAT_ROW_TYPE = 19,       /* 1 */
     NELQUBAT_ROW_UNDERLYING = 20, /* 13 */
     NELQUBAT_ROW_CLOSING = 33,    /* 1 */
@@ -591,8 +652,8 @@ enum {
     NELQUBAT_ROW_STATE = 52,      /* 1: trading state, 0 before any */
     NELQUBAT_ROW_CONDITION = 53,  /* 1 */
     NELQUBAT_ROW_SIDES = 54,      /* 1: sides seen, 1 bid and 2 ask, summed */
-    NELQUBAT_ROW_BID = 56,        /* 20 */
-    NELQUBAT_ROW_ASK = 76,        /* 20 */
+    NELQUBAT_ROW_BID = 56,        /* 20: where it was seen, price 0 is none, never a number */
+    NELQUBAT_ROW_ASK = 76,        /* 20: likewise */
     NELQUBAT_ROW_TRACKING = 96,   /* 2: of the row's latest message */
     NELQUBAT_ROW_TIME = 98        /* 8: of the row's latest message */
 };
@@ -679,14 +740,41 @@ static inline uint8_t nelqubat_row_condition(const uint8_t *row)
     return row[NELQUBAT_ROW_CONDITION];
 }
 
-static inline int nelqubat_row_has_bid(const uint8_t *row)
+/* Whether a side was seen, that is quoted, with a price or with none. */
+
+static inline int nelqubat_row_seen_bid(const uint8_t *row)
 {
     return (row[NELQUBAT_ROW_SIDES] & 1) != 0;
 }
 
-static inline int nelqubat_row_has_ask(const uint8_t *row)
+static inline int nelqubat_row_seen_ask(const uint8_t *row)
 {
     return (row[NELQUBAT_ROW_SIDES] & 2) != 0;
+}
+
+/* A row's prices in ten-thousandths of a dollar; 0 where the side was never seen,
+ * or has no price. */
+
+static inline uint32_t nelqubat_row_bid_price(const uint8_t *row)
+{
+    return nelqubat_row_seen_bid(row) ? nelqubat_price_at(row + NELQUBAT_ROW_BID, 1) : 0;
+}
+
+static inline uint32_t nelqubat_row_ask_price(const uint8_t *row)
+{
+    return nelqubat_row_seen_ask(row) ? nelqubat_price_at(row + NELQUBAT_ROW_ASK, 1) : 0;
+}
+
+/* Whether a side was seen, and has a price above zero. */
+
+static inline int nelqubat_row_has_bid(const uint8_t *row)
+{
+    return nelqubat_row_bid_price(row) != 0;
+}
+
+static inline int nelqubat_row_has_ask(const uint8_t *row)
+{
+    return nelqubat_row_ask_price(row) != 0;
 }
 
 static inline struct nelqubat_side nelqubat_row_bid(const uint8_t *row)
