@@ -471,12 +471,20 @@ static void break_record(struct dice *d, struct plain_message *m, uint8_t *recor
     }
 }
 
+/* Any message; of quotes, many with prices at their ends. */
+static void make_case_message(struct dice *d, struct plain_message *m)
+{
+    make_any_message(d, m);
+    if (dice_chance(d, 40))
+        vary_prices(d, m);
+}
+
 static void add_write(struct dice *d, bool damaged, struct script *s)
 {
     uint8_t record[SMALL_ROOM] = {0};
     struct plain_message m;
     struct call c = usual_call(CALL_WRITE);
-    make_any_message(d, &m);
+    make_case_message(d, &m);
     oracle_pack_record(&m, record);
     if (damaged)
         break_record(d, &m, record);
@@ -495,7 +503,7 @@ static void add_read(struct dice *d, bool damaged, struct script *s)
     if (damaged && dice_chance(d, 70)) {
         n = make_message_bytes(d, bytes, sizeof bytes);
     } else {
-        make_any_message(d, &m);
+        make_case_message(d, &m);
         plain_write(&m, bytes, sizeof bytes, &n);
         if (damaged)
             edge_message(d, bytes, n);

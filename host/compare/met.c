@@ -59,6 +59,27 @@ static const struct {
     [MET_UNTRADABLE] = {"quote 14 N", {1, 1, 1, 1, 1, 1, 1, 1, 1, 1}},
 };
 
+/* The calls that tell, read or write a message. */
+static const char *const letter_calls[MET_LETTER_CALLS] = {"step", "read", "write"};
+
+static const char *const price_names[MET_PRICES] = {"none", "1", "highest", "other"};
+
+/* What a row's line says of its bid, and of its ask. */
+static const char *const bid_names[MET_WORDS] = {"bid unseen", "bid none", "bid price"};
+static const char *const ask_names[MET_WORDS] = {"ask-unseen", "ask-none", "ask-price"};
+
+/* The sides that quotes set: the letter, and where its record has the side. */
+static const struct {
+    const char *name;
+    uint8_t letter;
+    size_t place;
+} sides[MET_SIDES] = {
+    {"q-bid", 'q', NELQUBAT_RECORD_BID}, {"q-ask", 'q', NELQUBAT_RECORD_ASK},
+    {"Q-bid", 'Q', NELQUBAT_RECORD_BID}, {"Q-ask", 'Q', NELQUBAT_RECORD_ASK},
+    {"b", 'b', NELQUBAT_RECORD_BID},     {"a", 'a', NELQUBAT_RECORD_ASK},
+    {"B", 'B', NELQUBAT_RECORD_BID},     {"A", 'A', NELQUBAT_RECORD_ASK},
+};
+
 /* A refusal of a packet that comes again, with nothing taken. */
 static bool repeats(unsigned refusal, size_t taken)
 {
@@ -84,6 +105,83 @@ static void count_letter(unsigned long *counts, uint8_t letter)
     const char *place = memchr(letters, letter, MET_LETTERS);
     if (place != NULL)
         counts[place - letters]++;
+}
+
+/* The highest price that a letter's form holds, as on the wire. */
+static uint32_t highest_in(uint8_t letter)
+{
+    return strchr("qba", letter) != NULL ? UINT16_MAX : INT32_MAX;
+}
+
+/* Where a record has the price of one of the sides. */
+static size_t price_place(size_t side)
+{
+    return sides[side].place + 4;
+}
+
+static unsigned price_sort(uint32_t price, uint32_t highest)
+{
+    if (price < 2)
+        return price;
+    return price == highest ? 2 : 3;
+}
+
+/* Counts a quote by the price of each side that it sets. */
+static void count_prices(unsigned long (*counts)[MET_SIDES], const uint8_t *record)
+{
+    uint8_t letter = nelqubat_record_letter(record);
+    for (size_t i = 0; i < MET_SIDES; i++)
+        if (sides[i].letter == letter)
+            counts[price_sort((uint32_t)nelqubat_get(record + price_place(i), 4), highest_in(letter))][i]++;
+}
+
+static void count_record(struct met *m, unsigned call, const uint8_t *record)
+{
+    count_letter(m->letters[call], nelqubat_record_letter(record));
+    count_prices(m->prices[call], record);
+}
+
+/* Whether a record is written once the price of a side is the highest in place of
+ * one above it. */
+static bool is_over(const uint8_t *record, size_t side)
+{
+    uint8_t mended[NELQUBAT_RECORD_BYTES], out[NELQUBAT_MESSAGE_BYTES];
+    uint32_t highest = highest_in(sides[side].letter);
+    if (nelqubat_get(record + price_place(side), 4) <= highest)
+        return false;
+    memcpy(mended, record, sizeof mended);
+    nelqubat_set(mended + price_place(side), 4, highest);
+    return nelqubat_refusal(oracle_write(mended, sizeof mended, out, sizeof out)) == NELQUBAT_DONE;
+}
+
+/* A record that was refused with 26, and so has its right length. */
+static void count_broken(struct met *m, const uint8_t *record)
+{
+    for (size_t i = 0; i < MET_SIDES; i++)
+        if (sides[i].letter == nelqubat_record_letter(record))
+            m->over[i] += is_over(record, i);
+}
+
+/* Where the word begins that ends at a place of a line. */
+static size_t word_start(const uint8_t *line, size_t end)
+{
+    while (end > 0 && line[end - 1] != ' ')
+        end--;
+    return end;
+}
+
+static unsigned word_sort(const uint8_t *word, size_t n)
+{
+    if (n == 1 && word[0] == '-')
+        return 0;
+    return n == 4 && memcmp(word, "none", n) == 0 ? 1 : 2;
+}
+
+/* Counts the line of a row by its last two words. */
+static void count_words(struct met *m, const uint8_t *line, size_t n)
+{
+    size_t ask = word_start(line, n - 1), bid = word_start(line, ask - 1);
+    m->words[word_sort(line + bid, ask - 1 - bid)][word_sort(line + ask, n - 1 - ask)]++;
 }
 
 static unsigned line_of(uint64_t k, uint64_t rows_used)
@@ -140,7 +238,7 @@ static void count_quote(struct met *m, uint32_t id, bool taken, const struct wor
 static void count_message(struct met *m, const struct world *plain)
 {
     const uint8_t *record = plain->small + GUARD_BYTES;
-    count_letter(m->letters[0], nelqubat_record_letter(record));
+    count_record(m, 0, record);
     if (strchr("qQbaBA", nelqubat_record_letter(record)) != NULL)
         count_quote(m, nelqubat_record_id(record), true, plain);
 }
@@ -157,6 +255,14 @@ static void count_refused(struct met *m, uint32_t answer, const struct world *pl
         count_quote(m, (uint32_t)nelqubat_get(piece + PACKET_ID, 4), false, plain);
 }
 
+static void count_line(struct met *m, uint64_t k, uint32_t answer, const struct world *plain)
+{
+    unsigned line = line_of(k, nelqubat_handle_rows(plain->handle + GUARD_BYTES));
+    m->lines[line]++;
+    if (line == 1)
+        count_words(m, plain->small + GUARD_BYTES, nelqubat_written(answer));
+}
+
 /* What a call that is done answers: a kind, a letter, a sort of line or row. */
 static void count_done(struct met *m, const struct call *c, uint32_t answer,
                        const struct world *plain, const uint8_t *input)
@@ -167,11 +273,11 @@ static void count_done(struct met *m, const struct call *c, uint32_t answer,
     if (c->op == CALL_STEP && nelqubat_kind(answer) == NELQUBAT_MESSAGE)
         count_message(m, plain);
     if (c->op == CALL_READ)
-        count_letter(m->letters[1], small[0]);
+        count_record(m, 1, small);
     if (c->op == CALL_WRITE)
-        count_letter(m->letters[2], input[0]);
+        count_record(m, 2, input);
     if (c->op == CALL_LINE)
-        m->lines[line_of(c->k, nelqubat_handle_rows(plain->handle + GUARD_BYTES))]++;
+        count_line(m, c->k, answer, plain);
     if (c->op == CALL_FIND)
         m->finds[find_of((uint32_t)c->k, answer, plain)]++;
 }
@@ -231,6 +337,8 @@ void met_count(struct met *m, const struct call *c, uint64_t answer,
         count_done(m, c, low, plain, input);
     else if (c->op == CALL_STEP)
         count_refused(m, low, plain, input, held);
+    else if (c->op == CALL_WRITE && refusal == NELQUBAT_REFUSED_RECORD)
+        count_broken(m, input);
 }
 
 /* One line of the table. A cell that cannot be met must be empty, and where
@@ -242,7 +350,7 @@ struct line {
 
 static struct line begin_line(const char *call, bool all)
 {
-    printf("met: %-10s", call);
+    printf("met: %-13s", call);
     return (struct line){call, all, true};
 }
 
@@ -318,9 +426,29 @@ static bool report_quotes(const struct met *m, enum met_quote quote, bool all)
     return end_line(&l);
 }
 
+static bool report_sides(const char *call, const char *what, const unsigned long *counts, bool all)
+{
+    char name[32];
+    struct line l;
+    snprintf(name, sizeof name, "%s %s", call, what);
+    l = begin_line(name, all);
+    for (size_t i = 0; i < MET_SIDES; i++)
+        add_cell(&l, sides[i].name, counts[i], true);
+    return end_line(&l);
+}
+
+/* Prices of quotes that a call told, read or wrote. */
+static bool report_prices(const struct met *m, size_t call, bool all)
+{
+    bool good = true;
+    for (size_t price = 0; price < MET_PRICES; price++)
+        good &= report_sides(letter_calls[call], price_names[price], m->prices[call][price], all);
+    return good;
+}
+
+
 bool met_report(const struct met *m, bool all)
 {
-    static const char *const letter_calls[MET_LETTER_CALLS] = {"step", "read", "write"};
     bool good = true;
     for (unsigned row = 0; row < MET_ROWS; row++)
         good &= report_refusals(m, (enum met_row)row, all);
@@ -333,6 +461,11 @@ bool met_report(const struct met *m, bool all)
         good &= report_letters(letter_calls[i], m->letters[i], all);
     for (unsigned quote = 0; quote < MET_QUOTES; quote++)
         good &= report_quotes(m, (enum met_quote)quote, all);
+    for (size_t i = 0; i < MET_LETTER_CALLS; i++)
+        good &= report_prices(m, i, all);
+    good &= report_sides("write", "26 over", m->over, all);
     good &= report_names("line", line_names, m->lines, MET_LINES, all);
+    for (size_t bid = 0; bid < MET_WORDS; bid++)
+        good &= report_names(bid_names[bid], ask_names, m->words[bid], MET_WORDS, all);
     return report_names("find", find_names, m->finds, MET_FINDS, all) && good;
 }

@@ -1,6 +1,6 @@
 /* How often each call met each refusal and each kind of answer and message, quotes
- * each state of a row, and runs each way to stop: a comparison that never met one
- * says nothing of it. */
+ * each state of a row and each sort of price, lines of rows each sort of side, and
+ * runs each way to stop: a comparison that never met one says nothing of it. */
 #ifndef MET_H
 #define MET_H
 

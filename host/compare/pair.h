@@ -72,6 +72,10 @@ enum met_quote { MET_TAKEN, MET_STATE_WRONG, MET_UNTRADABLE, MET_QUOTES };
 /* The row's state: none yet, one of the eight, or a byte that is no state. */
 enum { MET_STATES = 10 };
 
+/* A quote's price: none, 1, the highest of its form, another; the sides that the
+ * six letters set; and what a row's line says of a side: unseen, none, a price. */
+enum { MET_PRICES = 4, MET_SIDES = 8, MET_WORDS = 3 };
+
 struct met {
     unsigned long refusals[MET_ROWS][MET_REFUSALS];
     unsigned long kinds[MET_KINDS];                      /* of a step's answer */
@@ -83,6 +87,9 @@ struct met {
     unsigned long lines[MET_LINES];                      /* the first, a row's, the last, past it */
     unsigned long finds[MET_FINDS];                      /* a row alone, of several, none, one out of use */
     unsigned long quotes[MET_QUOTES][MET_STATES];        /* by the state of the row they speak to */
+    unsigned long prices[MET_LETTER_CALLS][MET_PRICES][MET_SIDES]; /* of quotes told by a step, read, written */
+    unsigned long over[MET_SIDES];                       /* records with 26 for a price above the highest alone */
+    unsigned long words[MET_WORDS][MET_WORDS];           /* of a row's line, for bid and ask */
 };
 
 struct pair {

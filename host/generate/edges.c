@@ -96,6 +96,17 @@ void edge_session(struct dice *d, struct bytes *session)
         edge_message(d, session->at + at + 3, end - at - 3);
 }
 
+/* A number of a record's sides, often the price of one that its letter sets. */
+static size_t side_number(struct dice *d, const uint8_t *record)
+{
+    bool is_bid = nelqubat_record_quotes_bid(record);
+    if (is_bid && nelqubat_record_quotes_ask(record))
+        is_bid = dice_chance(d, 50);
+    if (dice_chance(d, 50))
+        return (is_bid ? NELQUBAT_RECORD_BID : NELQUBAT_RECORD_ASK) + 4;
+    return NELQUBAT_RECORD_BID + 4 * dice_below(d, 10);
+}
+
 void edge_record(struct dice *d, uint8_t *record)
 {
     static const struct edge edges[] = {
@@ -106,7 +117,7 @@ void edge_record(struct dice *d, uint8_t *record)
         {NELQUBAT_RECORD_SYMBOL, 4, {' ', '!', '~', 0x7F}},
         {NELQUBAT_RECORD_UNDERLYING, 4, {' ', '!', '~', 0x7F}},
     };
-    size_t number = NELQUBAT_RECORD_BID + 4 * dice_below(d, 10);
+    size_t number = side_number(d, record);
     switch (record[NELQUBAT_RECORD_LETTER]) {
     case 'M':
         nelqubat_set(record + NELQUBAT_RECORD_NUMBER, 8,

@@ -25,6 +25,9 @@ void make_message(struct dice *d, enum plain_kind kind, struct plain_message *m)
 void make_any_message(struct dice *d, struct plain_message *m);
 void break_message(struct dice *d, struct plain_message *m);
 
+/* Each price of a quote: none, 1, the highest of its form, or left. */
+void vary_prices(struct dice *d, struct plain_message *m);
+
 /* Message bytes of any letter, true or with bytes and length spoiled. */
 size_t make_message_bytes(struct dice *d, uint8_t *out, size_t room);
 
@@ -34,6 +37,7 @@ struct session_plan {
     unsigned instruments; /* 1 to 256 */
     unsigned packets;
     unsigned quotes, states, directories, newcomers, events, heartbeats, skipped;
+    unsigned varied; /* percent of the quotes whose prices are varied */
     bool replay_end; /* close with the end of replay */
     bool end;        /* close with Z */
     uint64_t first;  /* the login's number */

@@ -248,6 +248,44 @@ void break_message(struct dice *d, struct plain_message *m)
     }
 }
 
+static uint32_t vary_price(struct dice *d, uint32_t price, uint32_t highest)
+{
+    const uint32_t prices[] = {0, 1, highest, price};
+    return prices[dice_below(d, 4)];
+}
+
+static void vary_short(struct dice *d, struct plain_short_side *s)
+{
+    s->price = (uint16_t)vary_price(d, s->price, UINT16_MAX);
+}
+
+static void vary_long(struct dice *d, struct plain_long_side *s)
+{
+    s->price = vary_price(d, s->price, INT32_MAX);
+}
+
+void vary_prices(struct dice *d, struct plain_message *m)
+{
+    switch (m->kind) {
+    case PLAIN_BOTH_SHORT:
+        vary_short(d, &m->both_short.bid);
+        vary_short(d, &m->both_short.ask);
+        break;
+    case PLAIN_BOTH_LONG:
+        vary_long(d, &m->both_long.bid);
+        vary_long(d, &m->both_long.ask);
+        break;
+    case PLAIN_ONE_SHORT:
+        vary_short(d, &m->one_short.side);
+        break;
+    case PLAIN_ONE_LONG:
+        vary_long(d, &m->one_long.side);
+        break;
+    default:
+        break;
+    }
+}
+
 size_t make_message_bytes(struct dice *d, uint8_t *out, size_t room)
 {
     struct plain_message m;

@@ -47,6 +47,7 @@ struct session_plan random_plan(struct dice *d)
         plan.first = 1 + pick_number(d, PLAIN_MAX_NUMBER - 1);
     if (dice_chance(d, 30))
         dice_fill(d, plan.session, sizeof plan.session);
+    plan.varied = (unsigned)dice_below(d, 30);
     return plan;
 }
 
@@ -201,9 +202,9 @@ static void set_one(struct plain_message *m, uint8_t condition,
 }
 
 /* A quote near the instrument's price, in the short form where it fits and
- * mostly so. */
-static void say_quote(struct dice *d, struct market *k, struct bytes *s,
-                      struct instrument *i)
+ * mostly so. A plan that varies no prices draws nothing for them. */
+static void say_quote(struct dice *d, const struct session_plan *p,
+                      struct market *k, struct bytes *s, struct instrument *i)
 {
     uint8_t condition = dice_chance(d, 95) ? ' ' : pick(d, conditions);
     uint32_t half = (uint32_t)dice_between(d, 1, 20) * 100;
@@ -223,6 +224,8 @@ static void say_quote(struct dice *d, struct market *k, struct bytes *s,
         set_one(&m, condition, PLAIN_BID, &bid, is_short);
     else
         set_one(&m, condition, PLAIN_ASK, &ask, is_short);
+    if (p->varied != 0 && dice_chance(d, p->varied))
+        vary_prices(d, &m);
     put_message(s, &m);
 }
 
@@ -262,7 +265,7 @@ static void say_any(struct dice *d, const struct session_plan *p,
                                       p->events + p->heartbeats + p->skipped);
     if (draw < p->quotes) {
         if (i)
-            say_quote(d, k, s, i);
+            say_quote(d, p, k, s, i);
         else
             put_packet(s, 'H', NULL, 0);
     } else if ((draw -= p->quotes) < p->states) {

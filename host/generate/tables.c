@@ -2,10 +2,13 @@
 
 #include <string.h>
 
+/* A side that was seen, now and then with no price. */
 static void make_row_side(struct dice *d, uint8_t *side)
 {
     for (size_t i = 0; i < 20; i += 4)
         set_number(side + i, 4, pick_number(d, i == 4 ? INT32_MAX : UINT32_MAX));
+    if (dice_chance(d, 20))
+        set_number(side + 4, 4, 0);
 }
 
 void make_row(struct dice *d, uint32_t id, uint8_t *row)
@@ -341,5 +344,7 @@ void make_quoted(struct dice *d, bool blurred, struct plain_reader *r,
     set_trading(d, blurred, row);
     make_message(d, (enum plain_kind)dice_between(d, PLAIN_BOTH_SHORT, PLAIN_ONE_LONG), &m);
     m.id = (uint32_t)get_number(row, 4);
+    if (dice_chance(d, 30))
+        vary_prices(d, &m);
     put_message(s, &m);
 }

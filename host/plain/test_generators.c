@@ -9,6 +9,36 @@ static bool takes_quote(unsigned state)
 /* How many quotes were taken, by the state of their rows. */
 static unsigned long quoted[256];
 
+/* How many prices they had: in pennies and in ten-thousandths, of bids and of asks,
+ * none, 1, the highest of the form, and others. */
+static unsigned long priced[2][2][4];
+
+static void count_price(size_t form, enum plain_which which, uint32_t price)
+{
+    uint32_t highest = form == 0 ? 65535 : 2147483647;
+    priced[form][which][price < 2 ? price : price == highest ? 2 : 3]++;
+}
+
+static void count_priced(const struct plain_message *m)
+{
+    switch (m->kind) {
+    case PLAIN_BOTH_SHORT:
+        count_price(0, PLAIN_BID, m->both_short.bid.price);
+        count_price(0, PLAIN_ASK, m->both_short.ask.price);
+        break;
+    case PLAIN_BOTH_LONG:
+        count_price(1, PLAIN_BID, m->both_long.bid.price);
+        count_price(1, PLAIN_ASK, m->both_long.ask.price);
+        break;
+    case PLAIN_ONE_SHORT:
+        count_price(0, m->one_short.which, m->one_short.side.price);
+        break;
+    default:
+        count_price(1, m->one_long.which, m->one_long.side.price);
+        break;
+    }
+}
+
 static void count_quoted(const struct bench *b, const struct plain_answer *a)
 {
     const uint8_t *row;
@@ -18,6 +48,7 @@ static void count_quoted(const struct bench *b, const struct plain_answer *a)
     plain_find(&b->r, b->table, sizeof b->table, a->message.id, &row);
     EXPECT(row != NULL, "the row of a quote that was taken");
     quoted[row[ROW_STATE]]++;
+    count_priced(&a->message);
 }
 
 /* Runs bytes in random pieces until they run out or the reader stops; the
@@ -43,6 +74,10 @@ static void expect_quoted(void)
     for (unsigned state = 0; state < 256; state++)
         EXPECT(takes_quote(state) ? quoted[state] > 100 : quoted[state] == 0,
                "the states in which true sessions quote");
+    for (size_t sort = 0; sort < 4; sort++)
+        EXPECT(priced[0][PLAIN_BID][sort] > 20 && priced[0][PLAIN_ASK][sort] > 20 &&
+                   priced[1][PLAIN_BID][sort] > 20 && priced[1][PLAIN_ASK][sort] > 20,
+               "the prices that true sessions have");
 }
 
 static void true_sessions(void)
