@@ -15,7 +15,7 @@ Where no events are wanted, a piece is read by runs of so many packets:
         show(reader.rows())
 
 What a call refuses is raised as Refused, with its number in document 01; a packet that a run refuses is told in its answer.
-Prices are whole numbers of ten-thousandths of a dollar.
+Prices are whole numbers of ten-thousandths of a dollar, above zero, or None where nobody bids or offers; a strike may be 0.
 The library is the shared object that NELQUBAT_SO names, or libnelqubat.so beside this file or in target/host, where
 `host/run python` builds it (x86-64).
 """
@@ -24,7 +24,7 @@ import ctypes
 import os
 from typing import NamedTuple, Optional
 
-VERSION = 2
+VERSION = 3
 HANDLE_BYTES, TABLE_BYTES, RECORD_BYTES = 305, 31744, 112
 ROW_BYTES, IMAGE_BYTES, LINE_BYTES, MESSAGE_BYTES = 124, 33280, 80, 63
 PIECE_BYTES = 65536
@@ -49,10 +49,11 @@ class Refused(Exception):
 
 
 class Side(NamedTuple):
-    """One side of a quote. A price is in ten-thousandths of a dollar whatever the message was; `price_on_wire` is what it had."""
+    """One side of a quote. A price is in ten-thousandths of a dollar whatever the message was, and None where there is none;
+    `price_on_wire` is the number that the message had, 0 for none."""
 
     market: int
-    price: int
+    price: Optional[int]
     size: int
     customer: int
     professional: int
@@ -64,7 +65,8 @@ class SideBytes(ctypes.BigEndianStructure):
     _fields_ = [(name, ctypes.c_uint32) for name in ("market", "price", "size", "customer", "professional")]
 
     def side(self, unit):
-        return Side(self.market, self.price * unit, self.size, self.customer, self.professional, self.price)
+        price = self.price * unit if self.price else None
+        return Side(self.market, price, self.size, self.customer, self.professional, self.price)
 
 
 def _text(count):
@@ -133,7 +135,8 @@ class Directory(NamedTuple):
 
 
 class Row(NamedTuple):
-    """A copy of a row; `state` is "" before any, a side that was never quoted is None."""
+    """A copy of a row; `state` is "" before any. A side that was never quoted is None; one that was quoted with no price
+    is a Side whose price is None."""
 
     id: int
     directory: Directory

@@ -38,10 +38,17 @@ def dollars(price):
     return f"{price // 10000}.{price % 10000:04}"
 
 
+def shown(side):
+    """A side as the example rows prints it."""
+    if side is None:
+        return "-"
+    return "none" if side.price is None else f"{dollars(side.price)}x{side.size}"
+
+
 def changed(number, letter, row):
     """A line as the example rows prints it."""
     d = row.directory
-    sides = " ".join("-" if s is None else f"{dollars(s.price)}x{s.size}" for s in (row.bid, row.ask))
+    sides = f"{shown(row.bid)} {shown(row.ask)}"
     return (f"{number} {letter} {row.id} {d.symbol:8} {d.year:02}-{d.month:02}-{d.day:02} {d.type} {dollars(d.strike)} "
             f"{row.state or '-'} {sides}\n")
 
@@ -83,7 +90,7 @@ class Layouts(unittest.TestCase):
 
 class Sessions(unittest.TestCase):
     def test_listings(self):
-        for name, least in (("open", 500), ("cut", 500), ("whole", 500), ("suspended", 70)):
+        for name, least in (("open", 500), ("cut", 500), ("whole", 500), ("suspended", 70), ("nobids", 50)):
             reader = nelqubat.Reader()
             events = sum(1 for _ in reader.read(os.path.join(SAMPLES, name + ".soup")))
             self.assertGreater(events, least)
@@ -105,6 +112,19 @@ class Sessions(unittest.TestCase):
         self.assertEqual("".join(lines).encode(), text(EXAMPLES, "rows.txt"))
         self.assertIsNone(reader.row(1))
         self.assertEqual(len(reader.rows()), len(text(SAMPLES, "whole.txt").splitlines()) - 2)
+
+    def test_rows_without_price(self):
+        reader, lines = nelqubat.Reader(), []
+        for event in reader.read(os.path.join(SAMPLES, "nobids.soup")):
+            if event.kind == "message" and event.message.id:
+                lines.append(changed(reader.next - 1, event.message.letter, reader.row(event.message.id)))
+        self.assertEqual("".join(lines).encode(), text(EXAMPLES, "rows-nobids.txt"))
+        again = nelqubat.Reader.restore(reader.save())
+        self.assertEqual(again.rows(), reader.rows())
+        quoted, never, bid_alone = reader.row(40052), reader.row(40069), reader.row(40071)
+        self.assertEqual((quoted.bid, quoted.ask), (nelqubat.Side(0, None, 0, 0, 0, 0),) * 2)
+        self.assertEqual((never.bid, never.ask, never.directory.strike), (None, None, 0))
+        self.assertEqual((bid_alone.bid.price, bid_alone.ask), (None, None))
 
     def test_found(self):
         reader = nelqubat.Reader()
@@ -207,6 +227,35 @@ class Messages(unittest.TestCase):
         self.assertEqual(message.bid, nelqubat.Side(1, 12500, 10, 2, 3, 125))
         self.assertIsNone(message.ask)
         self.assertEqual(nelqubat.encode(message), self.BID)
+
+    def test_prices(self):
+        """None, 1 and the highest, in pennies and in ten-thousandths."""
+        for letter, width, number, price in (
+                ("b", 2, 0, None), ("b", 2, 1, 100), ("b", 2, 65535, 6553500),
+                ("a", 2, 0, None), ("a", 2, 1, 100), ("a", 2, 65535, 6553500),
+                ("B", 4, 0, None), ("B", 4, 1, 1), ("B", 4, 2147483647, 2147483647),
+                ("A", 4, 0, None), ("A", 4, 1, 1), ("A", 4, 2147483647, 2147483647)):
+            numbers = b"".join(n.to_bytes(width, "big") for n in (1, number, 10, 2, 3))
+            message = nelqubat.decode(letter.encode() + self.BID[1:16] + numbers)
+            side, other = (message.bid, message.ask) if letter in "bB" else (message.ask, message.bid)
+            self.assertEqual((side, other), (nelqubat.Side(1, price, 10, 2, 3, number), None))
+            self.assertEqual(nelqubat.encode(message), letter.encode() + self.BID[1:16] + numbers)
+
+    def test_one_side_without_price(self):
+        for bid, ask in ((0, 5), (5, 0)):
+            numbers = b"".join(n.to_bytes(2, "big") for n in (1, bid, 10, 2, 3, 1, ask, 10, 2, 3))
+            message = nelqubat.decode(b"q" + self.BID[1:16] + numbers)
+            self.assertEqual((message.bid.price, message.ask.price), (bid * 100 or None, ask * 100 or None))
+            self.assertEqual((message.bid.price_on_wire, message.ask.price_on_wire), (bid, ask))
+
+    def test_price_over_highest(self):
+        place = nelqubat.RecordBytes.bid.offset + nelqubat.SideBytes.price.offset
+        for data, over in ((self.BID, 65536), (b"B" + self.BID[1:16] + bytes(20), 2147483648)):
+            message = nelqubat.decode(data)
+            record = message.record[:place] + over.to_bytes(4, "big") + message.record[place + 4:]
+            with self.assertRaises(nelqubat.Refused) as caught:
+                nelqubat.encode(message._replace(record=record))
+            self.assertEqual(caught.exception.number, 26)
 
     def test_refused(self):
         for data, number in ((b"", 10), (b"b", 11), (self.BID.replace(b" ", b"?"), 12)):
