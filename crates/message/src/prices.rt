@@ -56,7 +56,7 @@ pub fn keep_long(side: LongNumbers) -> bool
     }
 }
 
-// Two bytes hold every price that is in range.
+// The same in pennies: every price that two bytes hold is in range.
 pub fn keep_short(side: ShortNumbers) -> bool
     ensures { λ r. ⌜ r ≡ holds (price anything) (priced (longPrice (side .price))) ⌝ }
 {
