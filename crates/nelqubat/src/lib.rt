@@ -9,7 +9,8 @@ use packet::HELD_SIZE;
 use reader::Reader;
 use reader::StartAnswer;
 use record::RECORD_SIZE;
-use table::Found;
+use table::index;
+use table::index::Sought;
 ghost use mathlib.Core.Path.{_≡_};
 ghost use Prim.Native.Nat.{_≤_};
 ghost use mathlib.Core.List.{[]};
@@ -25,7 +26,7 @@ ghost use Rattle.reader.specs.Running.{HostRuns, RunsOn};
 ghost use Rattle.nelqubat.specs.Host.{noHeld, HostStarts, StartsOn, HostRestores, RestoresOn, savedNumber, SavedFits, HostSaves, lineTo, shownTo, hostVersion, lineHost, FoundFits, foundNumber, findHost};
 
 // The header that the library goes with names the same version.
-const VERSION: u32 = 3;
+const VERSION: u32 = 4;
 
 #[no_mangle]
 pub extern "C" fn nelqubat_version() -> u32
@@ -50,6 +51,14 @@ pub extern "C" fn nelqubat_table_size() -> usize
     table::TABLE_SIZE
 }
 
+// How many bytes index memory has.
+#[no_mangle]
+pub extern "C" fn nelqubat_index_size() -> usize
+    ensures { λ r. ⌜ r ≡ indexSize ⌝ }
+{
+    index::INDEX_SIZE
+}
+
 // How many bytes a message's record and event memory have.
 #[no_mangle]
 pub extern "C" fn nelqubat_record_size() -> usize
@@ -67,16 +76,16 @@ fn put_unheld(h: Head, handle: &mut [u8])
     handle::put_head(h, handle);
 }
 
-// Makes a handle fresh and fills the table with zeros.
+// Makes a handle fresh, and fills the table and its index with zeros.
 #[no_mangle]
-pub extern "C" fn nelqubat_start(handle: &mut [u8], table: &mut [u8]) -> u32
+pub extern "C" fn nelqubat_start(handle: &mut [u8], table: &mut [u8], index: &mut [u8]) -> u32
     ensures { λ r. ⌜ HostStarts (now (handle .entry)) (now (table .entry)) r (now (handle .exit)) (now (table .exit)) ⌝ }
     ensures { λ _. ⌜ StartsOn (now (handle .entry)) (now (table .entry)) (now (handle .exit)) (now (table .exit)) ⌝ }
 {
     if handle.len() != HANDLE_SIZE {
         return 20;
     }
-    let started = Reader::start(table);
+    let started = Reader::start(table, index);
     let reader = started.reader;
     let answer = started.answer;
     put_unheld(reader.head(), handle);
@@ -91,13 +100,14 @@ pub extern "C" fn nelqubat_start(handle: &mut [u8], table: &mut [u8]) -> u32
 pub extern "C" fn nelqubat_step(
     handle: &mut [u8],
     table: &mut [u8],
+    index: &mut [u8],
     piece: &[u8],
     event: &mut [u8],
 ) -> u32
     ensures { λ r. ⌜ HostSteps (now (handle .entry)) (now (table .entry)) (now (piece .entry)) (now (event .entry)) r (now (handle .exit)) (now (table .exit)) (now (event .exit)) ⌝ }
     ensures { λ _. ⌜ GoesOn (now (handle .entry)) (now (table .entry)) (now (piece .entry)) (now (event .entry)) (now (handle .exit)) (now (table .exit)) ⌝ }
 {
-    reader::step(handle, table, piece, event)
+    reader::step(handle, table, index, piece, event)
 }
 
 // Takes packets of the piece until so many are finished. The second byte of the answer says why it stopped, the two after that how many packets were
@@ -106,13 +116,14 @@ pub extern "C" fn nelqubat_step(
 pub extern "C" fn nelqubat_run(
     handle: &mut [u8],
     table: &mut [u8],
+    index: &mut [u8],
     piece: &[u8],
     ceiling: u32,
 ) -> u64
     ensures { λ r. ⌜ HostRuns (now (handle .entry)) (now (table .entry)) (now (piece .entry)) ceiling r (now (handle .exit)) (now (table .exit)) ⌝ }
     ensures { λ _. ⌜ RunsOn (now (handle .entry)) (now (table .entry)) (now (piece .entry)) ceiling (now (handle .exit)) (now (table .exit)) ⌝ }
 {
-    reader::run(handle, table, piece, ceiling)
+    reader::run(handle, table, index, piece, ceiling)
 }
 
 // What saving said, as a number: 256 times the count of bytes, or the refusal.
@@ -146,16 +157,21 @@ fn verdict_number(verdict: image::Verdict) -> u32
     }
 }
 
-// The handle and the table that an image holds.
+// The handle and the table that an image holds, and the index of its rows.
 #[no_mangle]
-pub extern "C" fn nelqubat_restore(handle: &mut [u8], table: &mut [u8], saved: &[u8]) -> u32
+pub extern "C" fn nelqubat_restore(
+    handle: &mut [u8],
+    table: &mut [u8],
+    index: &mut [u8],
+    saved: &[u8],
+) -> u32
     ensures { λ r. ⌜ HostRestores (now (handle .entry)) (now (table .entry)) (now (saved .entry)) r (now (handle .exit)) (now (table .exit)) ⌝ }
     ensures { λ _. ⌜ RestoresOn (now (handle .entry)) (now (table .entry)) (now (saved .entry)) (now (handle .exit)) (now (table .exit)) ⌝ }
 {
     if handle.len() != HANDLE_SIZE {
         return 20;
     }
-    let restored = Reader::restore(saved, table);
+    let restored = Reader::restore(saved, table, index);
     let reader = restored.reader;
     let verdict = restored.verdict;
     put_unheld(reader.head(), handle);
@@ -218,25 +234,29 @@ pub extern "C" fn nelqubat_line(handle: &[u8], table: &[u8], k: usize, out: &mut
     put_shown(text, out)
 }
 
-// The row for an id as a number: 256 times its place counted from 1, 0 for none.
-fn found_number(found: Found) -> u32
+// The row for an id as a number: 256 times its place counted from 1, 0 for none, 20 where the index led astray.
+fn found_number(found: Sought) -> u32
     requires { ⌜ FoundFits found ⌝ }
     ensures { λ r. ⌜ r ≡ foundNumber found ⌝ }
 {
     match found {
-        Found::At(k) => (k as u32 + 1) * 256,
-        Found::Nothing => 0,
+        Sought::Here(k) => (k as u32 + 1) * 256,
+        Sought::Absent(_) => 0,
+        Sought::Astray => 20,
     }
 }
 
-// The row for an id: the first among those in use that has it.
+// The row for an id.
 #[no_mangle]
-pub extern "C" fn nelqubat_find(handle: &[u8], table: &[u8], id: u32) -> u32
-    ensures { λ r. ⌜ r ≡ findHost (now (handle .entry)) (now (table .entry)) id ⌝ }
+pub extern "C" fn nelqubat_find(handle: &[u8], table: &[u8], index: &[u8], id: u32) -> u32
+    ensures { λ r. ⌜ r ≡ findHost (now (handle .entry)) (lent (now (table .entry)) (now (index .entry))) id ⌝ }
 {
     if !reader::within_limits(handle, table) {
         return 20;
     }
+    if !index::is_index(index) {
+        return 20;
+    }
     let head = handle::read_head(handle);
-    found_number(table::find(table, head.board.rows, id))
+    found_number(index::find(index, table, head.board.rows, id))
 }

@@ -28,14 +28,20 @@ fn is_event(number: u32) -> bool
     (1 <= kind) & (kind <= 6)
 }
 
-pub fn up_to(ceiling: u32, handle: &mut [u8], table: &mut [u8], piece: &[u8]) -> u64
+pub fn up_to(
+    ceiling: u32,
+    handle: &mut [u8],
+    table: &mut [u8],
+    index: &mut [u8],
+    piece: &[u8],
+) -> u64
     requires { ⌜ (hostWithin (now handle) (now table) ≡ true) × (ceiling ≤ mostPackets) ⌝ }
     ensures { λ r. ⌜ left r (now (handle .exit)) (now (table .exit)) ≡ ranTo (seenRun (runOf (soupBinTCP deliver) ceiling (stateOf (readerIn (now (handle .entry))) (now (table .entry))) (now (piece .entry)))) (placesIn (now (handle .entry))) ⌝ }
 {
     let mut taken = 0;
     let mut finished = 0;
     while finished < ceiling {
-        let number = crate::turned(handle, table, &piece[taken..]);
+        let number = crate::turned(handle, table, index, &piece[taken..]);
         taken += (number / told::BYTE_TAKEN) as usize;
         if !is_event(number) {
             return answer(number % told::BYTE_TAKEN, finished, taken);

@@ -32,11 +32,11 @@ fn test(size: usize, letter: u8, body: &[u8]) -> u32
 }
 
 // A message for the row of its id: 0, or the number of the refusal.
-fn place(rows: usize, handle: &mut [u8], table: &mut [u8], body: &[u8]) -> u8
+fn place(rows: usize, handle: &mut [u8], table: &mut [u8], index: &mut [u8], body: &[u8]) -> u8
     requires { ⌜ (isHandle (now handle) ≡ true) × ((rows ≡ headOf (now handle) .board .rows) × Placeable rows (now body) (now table)) ⌝ }
     ensures { λ r. ⌜ ((m : Message) (t : Texts) → readOf (now (body .entry)) ≡ accepted m t → left r (now (handle .exit)) (now (table .exit)) ≡ appliedAs (effect (headOf (now (handle .entry)) .board) m t (now (table .entry))) (now (handle .entry))) ⌝ }
 {
-    match table::wire::place(rows, body, table) {
+    match table::wire::place(rows, body, table, index) {
         Placed::Kept => 0,
         Placed::Added => {
             handle::put_rows(rows + 1, handle);
@@ -47,7 +47,14 @@ fn place(rows: usize, handle: &mut [u8], table: &mut [u8], body: &[u8]) -> u8
 }
 
 // A message that has passed its test.
-fn apply(size: usize, rows: usize, handle: &mut [u8], table: &mut [u8], body: &[u8]) -> u8
+fn apply(
+    size: usize,
+    rows: usize,
+    handle: &mut [u8],
+    table: &mut [u8],
+    index: &mut [u8],
+    body: &[u8],
+) -> u8
     requires { ⌜ (isHandle (now handle) ≡ true) × ((rows ≡ headOf (now handle) .board .rows) × ((size ≡ quoteLength (getD (now body) 0 0)) × ((tested (readOf (now body)) ≡ 0) × Fitting rows (now table)))) ⌝ }
     ensures { λ r. ⌜ ((m : Message) (t : Texts) → readOf (now (body .entry)) ≡ accepted m t → left r (now (handle .exit)) (now (table .exit)) ≡ appliedAs (effect (headOf (now (handle .entry)) .board) m t (now (table .entry))) (now (handle .entry))) ⌝ }
 {
@@ -62,11 +69,11 @@ fn apply(size: usize, rows: usize, handle: &mut [u8], table: &mut [u8], body: &[
             return 0;
         }
     }
-    place(rows, handle, table, body)
+    place(rows, handle, table, index, body)
 }
 
 // 0, or the number of the refusal.
-fn tried(rows: usize, handle: &mut [u8], table: &mut [u8], body: &[u8]) -> u8
+fn tried(rows: usize, handle: &mut [u8], table: &mut [u8], index: &mut [u8], body: &[u8]) -> u8
     requires { ⌜ Going (now handle) (now table) × (rows ≡ headOf (now handle) .board .rows) ⌝ }
     ensures { λ r. ⌜ left r (now (handle .exit)) (now (table .exit)) ≡ triedAs (deliver (tableOf (headOf (now (handle .entry)) .board) (now (table .entry))) (now (body .entry))) (now (handle .entry)) ⌝ }
 {
@@ -79,19 +86,29 @@ fn tried(rows: usize, handle: &mut [u8], table: &mut [u8], body: &[u8]) -> u8
     if bad != 0 {
         return bad as u8;
     }
-    apply(size, rows, handle, table, body)
+    apply(size, rows, handle, table, index, body)
 }
 
 // A message that may take the next number.
-pub fn message(next: u64, rows: usize, handle: &mut [u8], table: &mut [u8], body: &[u8]) -> u32
+pub fn message(
+    next: u64,
+    rows: usize,
+    handle: &mut [u8],
+    table: &mut [u8],
+    index: &mut [u8],
+    body: &[u8],
+) -> u32
     requires { ⌜ Ready (now handle) (now table) × ((rows ≡ headOf (now handle) .board .rows) × ((next ≡ headOf (now handle) .line .next) × (next < highestNumber))) ⌝ }
     ensures { λ r. ⌜ left r (now (handle .exit)) (now (table .exit)) ≡ closedAs (delivered (headOf (now (handle .entry)) .line) (deliver (tableOf (headOf (now (handle .entry)) .board) (now (table .entry))) (now (body .entry)))) (now (handle .entry)) ⌝ }
     ensures { λ r. ⌜ r < 65_536 ⌝ }
 {
-    let r = tried(rows, handle, table, body);
-    if r != 0 {
-        return told::refuse(r, handle);
+    let r = tried(rows, handle, table, index, body);
+    if r == 0 {
+        handle::put_next(numbering::number_after(next), handle);
+        return told::MESSAGE;
     }
-    handle::put_next(numbering::number_after(next), handle);
-    told::MESSAGE
+    if r == told::UNFIT_NUMBER {
+        return told::UNFIT;
+    }
+    told::refuse(r, handle)
 }

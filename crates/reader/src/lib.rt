@@ -9,6 +9,7 @@ use packet::HELD_SIZE;
 use packet::Line;
 use record::RECORD_SIZE;
 use table::Board;
+use table::index;
 ghost use mathlib.Core.Path.{_≡_};
 ghost use mathlib.Core.Bool.{true};
 ghost use lib.ListN.{length};
@@ -136,7 +137,7 @@ pub fn no_text() -> Texts
 }
 
 // Nothing is held: a whole packet is judged where it lies in the piece, which is handed on as a part of itself so that it goes in registers.
-fn straight(rows: usize, handle: &mut [u8], table: &mut [u8], piece: &[u8]) -> u32
+fn straight(rows: usize, handle: &mut [u8], table: &mut [u8], index: &mut [u8], piece: &[u8]) -> u32
     requires { ⌜ Ready (now handle) (now table) × (rows ≡ headOf (now handle) .board .rows) ⌝ }
     ensures { λ r. ⌜ left r (now (handle .exit)) (now (table .exit)) ≡ goneOn (now (handle .entry)) (now (table .entry)) (now (piece .entry)) ⌝ }
 {
@@ -152,8 +153,8 @@ fn straight(rows: usize, handle: &mut [u8], table: &mut [u8], piece: &[u8]) -> u
         }
         Framing::Whole(size) => {
             let end = size + 2;
-            packets::act(rows, handle, table, piece[2], &piece[3..end])
-                + end as u32 * told::BYTE_TAKEN
+            let number = packets::act(rows, handle, table, index, piece[2], &piece[3..end]);
+            told::with_taken(number, end)
         }
     }
 }
@@ -164,6 +165,7 @@ fn mended(
     used: usize,
     handle: &mut [u8],
     table: &mut [u8],
+    index: &mut [u8],
     piece: &[u8],
     event: &mut [u8],
 ) -> u32
@@ -175,7 +177,11 @@ fn mended(
     let all = packet::joined(&handle[HEAD_SIZE..HANDLE_SIZE], used, piece, n);
     let end = used + n;
     handle::put_used(0, handle);
-    let number = straight(rows, handle, table, &all[..end]);
+    let number = straight(rows, handle, table, index, &all[..end]);
+    if number == told::UNFIT {
+        handle::put_used(used, handle);
+        return number;
+    }
     told::tell(number, handle, &all[..end], event);
     number - used as u32 * told::BYTE_TAKEN
 }
@@ -207,7 +213,14 @@ fn why_stopped(handle: &[u8]) -> u32
 }
 
 // A handle that keeps its limits takes at most one packet, and tells it. A message is asked for first: it is told here, and anything else by a call.
-fn moved(rows: usize, handle: &mut [u8], table: &mut [u8], piece: &[u8], event: &mut [u8]) -> u32
+fn moved(
+    rows: usize,
+    handle: &mut [u8],
+    table: &mut [u8],
+    index: &mut [u8],
+    piece: &[u8],
+    event: &mut [u8],
+) -> u32
     requires { ⌜ (hostWithin (now handle) (now table) ≡ true) × ((length (now event) ≡ recordSize) × (rows ≡ headOf (now handle) .board .rows)) ⌝ }
     ensures { λ r. ⌜ HostSteps (now (handle .entry)) (now (table .entry)) (now (piece .entry)) (now (event .entry)) r (now (handle .exit)) (now (table .exit)) (now (event .exit)) ⌝ }
 {
@@ -216,7 +229,7 @@ fn moved(rows: usize, handle: &mut [u8], table: &mut [u8], piece: &[u8], event: 
     }
     let used = handle::used(handle);
     if used == 0 {
-        let number = straight(rows, handle, table, piece);
+        let number = straight(rows, handle, table, index, piece);
         if told::is_message(number) {
             told::tell_message(number, piece, event);
             return number;
@@ -224,11 +237,11 @@ fn moved(rows: usize, handle: &mut [u8], table: &mut [u8], piece: &[u8], event: 
         told::tell(number, handle, piece, event);
         return number;
     }
-    mended(rows, used, handle, table, piece, event)
+    mended(rows, used, handle, table, index, piece, event)
 }
 
 // The same with nothing told. A packet that was cut, which only the first of a run can be, goes the way of a step and is told to memory of its own.
-fn turned(handle: &mut [u8], table: &mut [u8], piece: &[u8]) -> u32
+fn turned(handle: &mut [u8], table: &mut [u8], index: &mut [u8], piece: &[u8]) -> u32
     requires { ⌜ hostWithin (now handle) (now table) ≡ true ⌝ }
     ensures { λ r. ⌜ left r (now (handle .exit)) (now (table .exit)) ≡ turnedAs (movedBy (now (handle .entry)) (now (table .entry)) (now (piece .entry))) ⌝ }
 {
@@ -238,10 +251,10 @@ fn turned(handle: &mut [u8], table: &mut [u8], piece: &[u8]) -> u32
     let rows = handle::rows(handle);
     let used = handle::used(handle);
     if used == 0 {
-        return straight(rows, handle, table, piece);
+        return straight(rows, handle, table, index, piece);
     }
     let mut unheard = [0u8; RECORD_SIZE];
-    mended(rows, used, handle, table, piece, &mut unheard)
+    mended(rows, used, handle, table, index, piece, &mut unheard)
 }
 
 // Does a handle keep its limits, with that table memory?
@@ -263,7 +276,13 @@ pub fn within_limits(handle: &[u8], table: &[u8]) -> bool
 
 // Takes at most one packet of the piece, on a handle where it lies. The low byte of the answer is the refusal, 0 for none, the second its kind, and
 // the upper half the count of bytes taken.
-pub fn step(handle: &mut [u8], table: &mut [u8], piece: &[u8], event: &mut [u8]) -> u32
+pub fn step(
+    handle: &mut [u8],
+    table: &mut [u8],
+    index: &mut [u8],
+    piece: &[u8],
+    event: &mut [u8],
+) -> u32
     ensures { λ r. ⌜ HostSteps (now (handle .entry)) (now (table .entry)) (now (piece .entry)) (now (event .entry)) r (now (handle .exit)) (now (table .exit)) (now (event .exit)) ⌝ }
     ensures { λ _. ⌜ GoesOn (now (handle .entry)) (now (table .entry)) (now (piece .entry)) (now (event .entry)) (now (handle .exit)) (now (table .exit)) ⌝ }
 {
@@ -271,6 +290,9 @@ pub fn step(handle: &mut [u8], table: &mut [u8], piece: &[u8], event: &mut [u8])
         return told::UNFIT;
     }
     if event.len() != RECORD_SIZE {
+        return told::UNFIT;
+    }
+    if !index::is_index(index) {
         return told::UNFIT;
     }
     let rows = handle::rows(handle);
@@ -287,22 +309,25 @@ pub fn step(handle: &mut [u8], table: &mut [u8], piece: &[u8], event: &mut [u8])
     ) {
         return told::UNFIT;
     }
-    moved(rows, handle, table, piece, event)
+    moved(rows, handle, table, index, piece, event)
 }
 
 // Takes packets of the piece until so many are finished, on a handle where it lies, and tells none of them. The low byte of the answer is the refusal,
 // 0 for none, the second why it stopped, the two after that how many packets were finished, and the upper half the count of bytes taken.
-pub fn run(handle: &mut [u8], table: &mut [u8], piece: &[u8], ceiling: u32) -> u64
+pub fn run(handle: &mut [u8], table: &mut [u8], index: &mut [u8], piece: &[u8], ceiling: u32) -> u64
     ensures { λ r. ⌜ HostRuns (now (handle .entry)) (now (table .entry)) (now (piece .entry)) ceiling r (now (handle .exit)) (now (table .exit)) ⌝ }
     ensures { λ _. ⌜ RunsOn (now (handle .entry)) (now (table .entry)) (now (piece .entry)) ceiling (now (handle .exit)) (now (table .exit)) ⌝ }
 {
     if !within_limits(handle, table) {
         return told::UNFIT as u64;
     }
+    if !index::is_index(index) {
+        return told::UNFIT as u64;
+    }
     if MOST_PACKETS < ceiling {
         return told::TOO_HIGH as u64;
     }
-    ceiling::up_to(ceiling, handle, table, piece)
+    ceiling::up_to(ceiling, handle, table, index, piece)
 }
 
 // A handle that holds nothing and has neither ended nor refused.
@@ -362,11 +387,11 @@ impl Reader {
         }
     }
 
-    // Fills the table with zeros.
-    pub fn start(table: &mut [u8]) -> Started
+    // Fills the table and its index with zeros.
+    pub fn start(table: &mut [u8], index: &mut [u8]) -> Started
         ensures { λ s. ⌜ Starting (now (table .entry)) s (now (table .exit)) ⌝ }
     {
-        let applied = table::start(table);
+        let applied = table::start(table, index);
         let board = applied.board;
         let verdict = applied.verdict;
         let reader = ready(Line::fresh(), board);
@@ -404,12 +429,12 @@ impl Reader {
     }
 
     // Takes at most one packet of the piece: the step on bytes of its own, with event memory of its own.
-    pub fn step(self, piece: &[u8], table: &mut [u8]) -> Stepped
+    pub fn step(self, piece: &[u8], table: &mut [u8], index: &mut [u8]) -> Stepped
         ensures { λ s. ⌜ Stepping self (now (table .entry)) (now (piece .entry)) s (now (table .exit)) ⌝ }
     {
         let mut handle = self.laid();
         let mut event = [0u8; RECORD_SIZE];
-        let number = step(&mut handle, table, piece, &mut event);
+        let number = step(&mut handle, table, index, piece, &mut event);
         let heard = told::read_back(number, &event);
         let answer = heard.answer;
         let texts = heard.texts;
@@ -422,11 +447,11 @@ impl Reader {
     }
 
     // Takes packets of the piece until so many are finished, and tells none: the run on bytes of its own.
-    pub fn run(self, piece: &[u8], table: &mut [u8], ceiling: u32) -> Ran
+    pub fn run(self, piece: &[u8], table: &mut [u8], index: &mut [u8], ceiling: u32) -> Ran
         ensures { λ x. ⌜ Running self (now (table .entry)) (now (piece .entry)) ceiling x (now (table .exit)) ⌝ }
     {
         let mut handle = self.laid();
-        let number = run(&mut handle, table, piece, ceiling);
+        let number = run(&mut handle, table, index, piece, ceiling);
         Ran {
             reader: Reader::read(&handle),
             taken: (number / 4294967296) as usize,
@@ -462,14 +487,24 @@ impl Reader {
         image::save(header, table, out)
     }
 
-    // The reader and the table that an image holds.
-    pub fn restore(saved: &[u8], table: &mut [u8]) -> Restored
-        ensures { λ r. ⌜ Restores (now (saved .entry)) (now (table .entry)) r (now (table .exit)) ⌝ }
+    // The reader and the table that an image holds, and the index of its rows.
+    pub fn restore(saved: &[u8], table: &mut [u8], index: &mut [u8]) -> Restored
+        ensures { λ r. ⌜ Restores (now (saved .entry)) (lent (now (table .entry)) (now (index .entry))) r (lent (now (table .exit)) (now (index .exit))) ⌝ }
     {
+        if !index::is_index(index) {
+            return Restored {
+                reader: ready(Line::fresh(), table::fresh_board()),
+                verdict: image::Verdict::Refused(image::Refusal::Unfit),
+            };
+        }
         let back = image::restore(saved, table);
         let header = back.header;
         let verdict = back.verdict;
         let board = header.board;
+        match verdict {
+            image::Verdict::Accepted => index::build(index, table, header.board.rows),
+            image::Verdict::Refused(_) => {}
+        }
         Restored {
             reader: ready(restored_line(header), board),
             verdict,

@@ -67,14 +67,21 @@ fn other(handle: &mut [u8], letter: u8, body: &[u8]) -> u32
 }
 
 // What a whole packet does.
-pub fn act(rows: usize, handle: &mut [u8], table: &mut [u8], letter: u8, body: &[u8]) -> u32
+pub fn act(
+    rows: usize,
+    handle: &mut [u8],
+    table: &mut [u8],
+    index: &mut [u8],
+    letter: u8,
+    body: &[u8],
+) -> u32
     requires { ⌜ Ready (now handle) (now table) × (rows ≡ headOf (now handle) .board .rows) ⌝ }
     ensures { λ r. ⌜ left r (now (handle .exit)) (now (table .exit)) ≡ closedAs (soupBinTCP deliver (sessionAt (now (handle .entry)) (now (table .entry))) letter (now (body .entry))) (now (handle .entry)) ⌝ }
     ensures { λ r. ⌜ r < 65_536 ⌝ }
 {
     let next = handle::next(handle);
     if packet::is_message(handle::logged(handle), next, letter) {
-        return deliver::message(next, rows, handle, table, body);
+        return deliver::message(next, rows, handle, table, index, body);
     }
     other(handle, letter, body)
 }

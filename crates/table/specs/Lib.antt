@@ -1,4 +1,6 @@
 pub mod Memory
+pub mod Index
+pub mod Sorted
 pub mod Board
 pub mod Places
 pub mod Rules

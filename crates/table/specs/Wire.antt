@@ -10,10 +10,9 @@ use Rattle.message.specs.Message.{readOf}
 use Rattle.message.specs.Test.{tested}
 use Rattle.row.specs.Fields.{rowSize}
 use Rattle.row.specs.Wire.{actionIn, directoryIn, textsIn, quoteIn}
-use Rattle.table.specs.Memory.{Fitting, row, withRow}
+use Rattle.table.specs.Memory.{Lent, row, withRow, Found, At, Nothing}
+use Rattle.table.specs.Index.{LentFitting, entered}
 use Rattle.table.specs.Board.{Outcome, accepted, refused, oneMore, directoryAt, actionAt, quoteAt}
-use Rattle.table.specs.declared.Found.{Found}
-use Rattle.table.specs.declared.Found.the-variants.{At, Nothing}
 use Rattle.table.specs.declared.Board.{Board}
 use Rattle.table.specs.declared.wire.Placed.{Placed}
 use Rattle.table.specs.declared.wire.Placed.the-variants.{Kept, Added, Refused}
@@ -24,18 +23,24 @@ placed Kept b mem = accepted b mem
 placed Added b mem = accepted (oneMore b) mem
 placed (Refused r) b mem = refused r b mem
 
+-- and the index: a row that was added enters at the place that was left for it
+abbrev pub indexBy : Placed → ℕ → ℕ → List ℕ → List ℕ
+indexBy Kept rows p ix = ix
+indexBy Added rows p ix = entered ix rows p rows
+indexBy (Refused r) rows p ix = ix
+
 -- bytes of a message that looks for a row: neither S nor M
 pub record Rowed (bs : List ℕ) : Type 0 where
   pub passed : tested (readOf bs) ≡ 0
   pub noEvent : getD bs 0 0 ≡ 83 → ⊥
   pub noEnd : getD bs 0 0 ≡ 77 → ⊥
 
--- and a table that has the rows in use
-pub record Placeable (rows : ℕ) (bs mem : List ℕ) : Type 0 where
+-- and memories that have the rows in use
+pub record Placeable (rows : ℕ) (bs : List ℕ) (l : Lent) : Type 0 where
   pub passed : tested (readOf bs) ≡ 0
   pub noEvent : getD bs 0 0 ≡ 83 → ⊥
   pub noEnd : getD bs 0 0 ≡ 77 → ⊥
-  pub fitting : Fitting rows mem
+  pub fitting : LentFitting rows l
 
 -- what such bytes say to the table: H, m, and the six letters of quotes
 unfoldable pub effectIn : List ℕ → Board → List ℕ → Found → Outcome

@@ -1,12 +1,10 @@
-// The table of instruments, in memory that the caller lends at each call: its start, and the row for an id.
+// The table of instruments and the index of its rows, in memory that the caller lends at each call: their start.
 ghost use mathlib.Core.Path.{_≡_};
-ghost use Prim.Native.Nat.{_≤_, _*_};
-ghost use lib.ListN.{length};
-ghost use Rattle.row.specs.Fields.{rowSize};
-ghost use Rattle.table.specs.Memory.{isTable, rowsFit, rowFor};
-ghost use Rattle.table.specs.Board.{refusalNumber, freshBoard, taken, denied, outcome, startOf};
+ghost use Rattle.table.specs.Memory.{isTable, rowsFit, lent};
+ghost use Rattle.table.specs.Index.{isLent};
+ghost use Rattle.table.specs.Board.{refusalNumber, freshBoard, taken, denied, outcome, beside, startOf};
 
-mod walk;
+pub mod index;
 pub mod wire;
 
 pub const MOST_ROWS: usize = 256;
@@ -44,12 +42,6 @@ pub enum Verdict {
 pub struct Applied {
     pub board: Board,
     pub verdict: Verdict,
-}
-
-// The row for an id.
-pub enum Found {
-    At(usize),
-    Nothing,
 }
 
 pub fn refusal_number(r: Refusal) -> u8
@@ -99,6 +91,13 @@ pub fn is_table(table: &[u8]) -> bool
     table.len() == TABLE_SIZE
 }
 
+// Is that of the table, and of its index?
+fn is_lent(table: &[u8], index: &[u8]) -> bool
+    ensures { λ r. ⌜ r ≡ isLent (lent (now (table .entry)) (now (index .entry))) ⌝ }
+{
+    is_table(table) & index::is_index(index)
+}
+
 // Is it, and has it so many rows?
 pub fn rows_fit(rows: usize, table: &[u8]) -> bool
     ensures { λ r. ⌜ r ≡ rowsFit rows (now (table .entry)) ⌝ }
@@ -106,29 +105,14 @@ pub fn rows_fit(rows: usize, table: &[u8]) -> bool
     is_table(table) & (rows <= MOST_ROWS)
 }
 
-// The first among the rows in use that has the id.
-pub fn find(table: &[u8], rows: usize, id: u32) -> Found
-    requires { ⌜ rows * rowSize ≤ length (now table) ⌝ }
-    ensures { λ r. ⌜ r ≡ rowFor rows (now (table .entry)) id ⌝ }
+// Both memories filled with zeros, and a board with nothing on it.
+pub fn start(table: &mut [u8], index: &mut [u8]) -> Applied
+    ensures { λ r. ⌜ beside (now (index .exit)) (outcome r (now (table .exit))) ≡ startOf (lent (now (table .entry)) (now (index .entry))) ⌝ }
 {
-    let key = field::turned(id);
-    let mut k = 0;
-    while 8 <= rows - k {
-        match walk::first_of_eight(table, k, key) {
-            Found::At(hit) => return Found::At(hit),
-            Found::Nothing => k += 8,
-        }
-    }
-    walk::first_from(table, k, rows, key)
-}
-
-// Table memory filled with zeros, and a board with nothing on it.
-pub fn start(table: &mut [u8]) -> Applied
-    ensures { λ r. ⌜ outcome r (now (table .exit)) ≡ startOf (now (table .entry)) ⌝ }
-{
-    if !is_table(table) {
+    if !is_lent(table, index) {
         return refuse(Refusal::Unfit, fresh_board());
     }
     field::fill(table, 0, TABLE_SIZE, 0);
+    index::clear(index);
     accept(fresh_board())
 }

@@ -1,6 +1,7 @@
 // What a message does to the table, straight from its bytes, which have passed their test.
-use crate::Found;
 use crate::Refusal;
+use crate::index;
+use crate::index::Sought;
 ghost use mathlib.Core.Path.{_≡_};
 ghost use Prim.Native.Nat.{_≤_};
 ghost use lib.ListN.{length, getD};
@@ -10,9 +11,10 @@ ghost use Rattle.message.specs.declared.Message.{Message};
 ghost use Rattle.message.specs.declared.Texts.{Texts};
 ghost use Rattle.row.specs.Fields.{rowSize};
 ghost use Rattle.row.specs.Wire.{directoryIn, textsIn, quoteIn};
-ghost use Rattle.table.specs.Memory.{Fitting};
-ghost use Rattle.table.specs.Board.{directoryAt, quoteAt, effect};
-ghost use Rattle.table.specs.Wire.{placed, Rowed, Placeable, effectIn, AtRow, AtNone};
+ghost use Rattle.table.specs.Memory.{lent};
+ghost use Rattle.table.specs.Index.{LentFitting};
+ghost use Rattle.table.specs.Board.{beside, directoryAt, quoteAt, effect};
+ghost use Rattle.table.specs.Wire.{placed, indexBy, Rowed, Placeable, effectIn, AtRow, AtNone};
 ghost use Rattle.table.specs.declared.Board.{Board};
 
 // What came of a message: the rows in use stay, or there is one more; or it is refused.
@@ -22,10 +24,11 @@ pub enum Placed {
     Refused(Refusal),
 }
 
-// A message for an id that has no row yet: only a directory adds one.
-fn add(rows: usize, bytes: &[u8], table: &mut [u8]) -> Placed
-    requires { ⌜ Rowed (now bytes) × Fitting rows (now table) ⌝ }
+// A message for an id that has no row yet: only a directory adds one, which takes its place in the index.
+fn add(rows: usize, place: usize, bytes: &[u8], table: &mut [u8], index: &mut [u8]) -> Placed
+    requires { ⌜ Rowed (now bytes) × (LentFitting rows (lent (now table) (now index)) × (place ≤ rows)) ⌝ }
     ensures { λ r. ⌜ AtNone (effectIn (now (bytes .entry))) rows (now (table .entry)) (now (table .exit)) r ⌝ }
+    ensures { λ r. ⌜ now (index .exit) ≡ indexBy r rows place (now (index .entry)) ⌝ }
 {
     if bytes[0] != b'm' {
         return Placed::Refused(Refusal::NoRow);
@@ -36,6 +39,7 @@ fn add(rows: usize, bytes: &[u8], table: &mut [u8]) -> Placed
     let from = rows * row::ROW_SIZE;
     let to = from + row::ROW_SIZE;
     row::wire::put_new(&mut table[from..to], bytes);
+    index::insert(index, rows, place, rows);
     Placed::Added
 }
 
@@ -78,16 +82,17 @@ fn at_row(row: &mut [u8], bytes: &[u8]) -> Placed
 }
 
 // A message for the row of its id: accepted, with all that it changes, or refused, with nothing changed.
-pub fn place(rows: usize, bytes: &[u8], table: &mut [u8]) -> Placed
-    requires { ⌜ Placeable rows (now bytes) (now table) ⌝ }
-    ensures { λ r. ⌜ ((b : Board) (m : Message) (t : Texts) → b .rows ≡ rows → readOf (now (bytes .entry)) ≡ accepted m t → placed r b (now (table .exit)) ≡ effect b m t (now (table .entry))) ⌝ }
+pub fn place(rows: usize, bytes: &[u8], table: &mut [u8], index: &mut [u8]) -> Placed
+    requires { ⌜ Placeable rows (now bytes) (lent (now table) (now index)) ⌝ }
+    ensures { λ r. ⌜ ((b : Board) (m : Message) (t : Texts) → b .rows ≡ rows → readOf (now (bytes .entry)) ≡ accepted m t → beside (now (index .exit)) (placed r b (now (table .exit))) ≡ effect b m t (lent (now (table .entry)) (now (index .entry)))) ⌝ }
 {
-    match crate::find(table, rows, field::read4(bytes, 11)) {
-        Found::At(k) => {
+    match index::find(index, table, rows, field::read4(bytes, 11)) {
+        Sought::Here(k) => {
             let from = k * row::ROW_SIZE;
             let to = from + row::ROW_SIZE;
             at_row(&mut table[from..to], bytes)
         }
-        Found::Nothing => add(rows, bytes, table),
+        Sought::Absent(place) => add(rows, place, bytes, table, index),
+        Sought::Astray => Placed::Refused(Refusal::Unfit),
     }
 }
