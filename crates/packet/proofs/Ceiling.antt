@@ -14,7 +14,7 @@ use Rattle.packet.specs.Stream as stream
 use Rattle.packet.specs.Stream.{Verdict, accept, finish, refuse, State, live, ended, refused, Unfinished, Run, first, _then_, still, told, eventsOf, Answer, Stepped, Called, call}
 use Rattle.packet.specs.Stream.{reading, stepJudged, stepFramed, stepOf}
 use Rattle.packet.specs.Ceiling as ceiling
-use Rattle.packet.specs.Ceiling.{Why, Ran, whyAtCeiling, halted, _onward_, further, ranBy, runOf}
+use Rattle.packet.specs.Ceiling.{Why, Ran, whyAtCeiling, halted, _onward_, further, ranBy, runBy, runOf}
 use Rattle.packet.proofs.Rules.{never}
 use Rattle.packet.proofs.Cut.{reading-none, reading-cut}
 use Rattle.packet.proofs.Step.{step-taken, step-within, step-unfinished, gets-on}
@@ -27,12 +27,9 @@ isCeiling (ceiling.Refused n) = false
 isCeiling ceiling.Ceiling = true
 isCeiling ceiling.More = false
 
-module _ {S E : Type 0} (judge : S → ℕ → List ℕ → Verdict S E) where
-  -- ---- ONE STEP OF A RUN
+-- ---- ONE STEP OF A RUN
 
-  abbrev stepped : State S → ℕ → Answer E → Stepped S E
-  stepped st t a = record { state = st; taken = t; answer = a }
-
+module _ {E : Type 0} where
   -- an answer that is no event stops a run, for its reason
   abbrev pub Halts : Answer E → Why → Type 0
   Halts (stream.Event e) w = ⊥
@@ -52,69 +49,75 @@ module _ {S E : Type 0} (judge : S → ℕ → List ℕ → Verdict S E) where
   halts-before stream.Ended w h z = never (ap isCeiling (sym h ∙ z))
   halts-before (stream.Refused n) w h z = never (ap isCeiling (sym h ∙ z))
 
+module _ {S E : Type 0} where
+  abbrev stepped : State S → ℕ → Answer E → Stepped S E
+  stepped st t a = record { state = st; taken = t; answer = a }
+
   halts-by : (go : State S → List ℕ → Ran S) (piece : List ℕ) (st : State S) (t : ℕ) (a : Answer E) (w : Why) → Halts a w
-      → ranBy judge go piece st t a ≡ halted st t w
+      → ranBy go piece st t a ≡ halted st t w
   halts-by go piece st t (stream.Event e) w h = absurd h
   halts-by go piece st t stream.More w h = ap (halted st t) (sym h)
   halts-by go piece st t stream.Ended w h = ap (halted st t) (sym h)
   halts-by go piece st t (stream.Refused n) w h = ap (halted st t) (sym h)
 
+  taken-of : {q : Stepped S E} {st : State S} {t : ℕ} {a : Answer E} → q ≡ stepped st t a → q .taken ≡ t
+  taken-of h = ap (λ (x : Stepped S E). x .taken) h
+
+module _ {S E : Type 0} (step : State S → List ℕ → Stepped S E) where
   -- a step with an event: its packet is finished, and the run goes on
   pub run-event : (n : ℕ) (st : State S) (piece : List ℕ) {st′ : State S} {t : ℕ} {e : E}
-      → stepOf judge st piece ≡ record { state = st′; taken = t; answer = stream.Event e }
-      → runOf judge (suc n) st piece ≡ further t (runOf judge n st′ (drop t piece))
-  unfolding runOf
-  run-event n st piece h = ap (λ (q : Stepped S E). ranBy judge (runOf judge n) piece (q .state) (q .taken) (q .answer)) h
+      → step st piece ≡ record { state = st′; taken = t; answer = stream.Event e }
+      → runBy step (suc n) st piece ≡ further t (runBy step n st′ (drop t piece))
+  unfolding runBy
+  run-event n st piece h = ap (λ (q : Stepped S E). ranBy (runBy step n) piece (q .state) (q .taken) (q .answer)) h
 
   -- any other step stops it
   pub run-stops : (n : ℕ) (st : State S) (piece : List ℕ) {st′ : State S} {t : ℕ} {a : Answer E} {w : Why}
-      → stepOf judge st piece ≡ record { state = st′; taken = t; answer = a } → Halts a w
-      → runOf judge (suc n) st piece ≡ halted st′ t w
-  unfolding runOf
+      → step st piece ≡ record { state = st′; taken = t; answer = a } → Halts a w
+      → runBy step (suc n) st piece ≡ halted st′ t w
+  unfolding runBy
   run-stops n st piece {st′} {t} {a} {w} h s =
-      ap (λ (q : Stepped S E). ranBy judge (runOf judge n) piece (q .state) (q .taken) (q .answer)) h ∙ halts-by (runOf judge n) piece st′ t a w s
+      ap (λ (q : Stepped S E). ranBy (runBy step n) piece (q .state) (q .taken) (q .answer)) h ∙ halts-by (runBy step n) piece st′ t a w s
 
   -- STEP BY STEP: what the ceiling's run has, what a step that stops has, and what a step with an event hands on, every run has
   pub record EachStep (P : ℕ → State S → List ℕ → Ran S → Type 0) : Type 0 where
     pub none : (st : State S) (piece : List ℕ) → P 0 st piece (halted st 0 (whyAtCeiling st))
     pub event : (n : ℕ) (st st′ : State S) (piece : List ℕ) (t : ℕ) (e : E)
-        → stepOf judge st piece ≡ record { state = st′; taken = t; answer = stream.Event e }
-        → P n st′ (drop t piece) (runOf judge n st′ (drop t piece)) → P (suc n) st piece (further t (runOf judge n st′ (drop t piece)))
+        → step st piece ≡ record { state = st′; taken = t; answer = stream.Event e }
+        → P n st′ (drop t piece) (runBy step n st′ (drop t piece)) → P (suc n) st piece (further t (runBy step n st′ (drop t piece)))
     pub stops : (n : ℕ) (st st′ : State S) (piece : List ℕ) (t : ℕ) (a : Answer E) (w : Why)
-        → stepOf judge st piece ≡ record { state = st′; taken = t; answer = a } → Halts a w → P (suc n) st piece (halted st′ t w)
+        → step st piece ≡ record { state = st′; taken = t; answer = a } → Halts a w → P (suc n) st piece (halted st′ t w)
 
   module _ {P : ℕ → State S → List ℕ → Ran S → Type 0} (each : EachStep P) where
-    at-answer : (n : ℕ) (st st′ : State S) (piece : List ℕ) (t : ℕ) (a : Answer E) → stepOf judge st piece ≡ stepped st′ t a
-        → P n st′ (drop t piece) (runOf judge n st′ (drop t piece)) → P (suc n) st piece (ranBy judge (runOf judge n) piece st′ t a)
+    at-answer : (n : ℕ) (st st′ : State S) (piece : List ℕ) (t : ℕ) (a : Answer E) → step st piece ≡ stepped st′ t a
+        → P n st′ (drop t piece) (runBy step n st′ (drop t piece)) → P (suc n) st piece (ranBy (runBy step n) piece st′ t a)
     at-answer n st st′ piece t (stream.Event e) h go = each .event n st st′ piece t e h go
     at-answer n st st′ piece t stream.More h go = each .stops n st st′ piece t stream.More ceiling.More h refl
     at-answer n st st′ piece t stream.Ended h go = each .stops n st st′ piece t stream.Ended ceiling.Ended h refl
     at-answer n st st′ piece t (stream.Refused k) h go = each .stops n st st′ piece t (stream.Refused k) (ceiling.Refused k) h refl
 
-    pub each-step : (n : ℕ) (st : State S) (piece : List ℕ) → P n st piece (runOf judge n st piece)
-    unfolding runOf
+    pub each-step : (n : ℕ) (st : State S) (piece : List ℕ) → P n st piece (runBy step n st piece)
+    unfolding runBy
     each-step zero st piece = each .none st piece
     each-step (suc n) st piece =
-        let r = stepOf judge st piece in
+        let r = step st piece in
         at-answer n st (r .state) piece (r .taken) (r .answer) refl (each-step n (r .state) (drop (r .taken) piece))
 
   -- ---- HOW MUCH
 
-  taken-of : {q : Stepped S E} {st : State S} {t : ℕ} {a : Answer E} → q ≡ stepped st t a → q .taken ≡ t
-  taken-of h = ap (λ (x : Stepped S E). x .taken) h
-
-  -- a run takes no more than it is given
-  pub run-within : (n : ℕ) (st : State S) (piece : List ℕ) → runOf judge n st piece .taken ≤ length piece
-  run-within =
+  -- a run takes no more than it is given, if a step does not
+  pub run-within : ((st : State S) (piece : List ℕ) → step st piece .taken ≤ length piece) → (n : ℕ) (st : State S) (piece : List ℕ)
+      → runBy step n st piece .taken ≤ length piece
+  run-within within =
       each-step {P = λ n st piece r. r .taken ≤ length piece}
       (record {
         none = λ st piece. omega arith;
-        event = λ n st st′ piece t e h go. omega (arith, go, length-drop t piece, step-within judge st piece, taken-of h);
-        stops = λ n st st′ piece t a w h s. omega (arith, step-within judge st piece, taken-of h);
+        event = λ n st st′ piece t e h go. omega (arith, go, length-drop t piece, within st piece, taken-of h);
+        stops = λ n st st′ piece t a w h s. omega (arith, within st piece, taken-of h);
       })
 
   -- and finishes no more than the ceiling
-  pub run-most : (n : ℕ) (st : State S) (piece : List ℕ) → runOf judge n st piece .finished ≤ n
+  pub run-most : (n : ℕ) (st : State S) (piece : List ℕ) → runBy step n st piece .finished ≤ n
   run-most =
       each-step {P = λ n st piece r. r .finished ≤ n}
       (record {
@@ -123,10 +126,59 @@ module _ {S E : Type 0} (judge : S → ℕ → List ℕ → Verdict S E) where
         stops = λ n st st′ piece t a w h s. omega arith;
       })
 
+  -- ---- A RUN STOPS FOR WHAT ITS LAST STEP SAYS, or for what its reader says at the ceiling
+
+  pub run-says : (Q : State S → Why → Type 0) → ((st : State S) → Q st (whyAtCeiling st))
+      → ((st : State S) (piece : List ℕ) (w : Why) → Halts (step st piece .answer) w → Q (step st piece .state) w)
+      → (n : ℕ) (st : State S) (piece : List ℕ)
+      → (let r = runBy step n st piece in
+      Q (r .state) (r .why))
+  run-says Q none stops =
+      each-step {P = λ n st piece r. Q (r .state) (r .why)}
+      (record {
+        none = λ st piece. none st;
+        event = λ n st st′ piece t e h go. go;
+        stops = λ n st st′ piece t a w h s. subst (λ (q : Stepped S E). Halts (q .answer) w → Q (q .state) w) h (stops st piece w) s;
+      })
+
+  -- ---- WHAT STEPS KEEP, A RUN KEEPS
+
+  module _ (P : State S → Type 0) (G : List ℕ → Type 0) (drops : (n : ℕ) (p : List ℕ) → G p → G (drop n p))
+      (keeps : (st : State S) (p : List ℕ) → G p → P st → P (step st p .state)) where
+    step-keeps : (st st′ : State S) (piece : List ℕ) (t : ℕ) (a : Answer E) → step st piece ≡ stepped st′ t a → G piece → P st → P st′
+    step-keeps st st′ piece t a h g k = subst (λ (q : Stepped S E). P (q .state)) h (keeps st piece g k)
+
+    pub run-keeps : (n : ℕ) (st : State S) (piece : List ℕ) → G piece → P st → P (runBy step n st piece .state)
+    run-keeps =
+        each-step {P = λ n st piece r. G piece → P st → P (r .state)}
+        (record {
+          none = λ st piece g k. k;
+          event = λ n st st′ piece t e h go g k. go (drops t piece g) (step-keeps st st′ piece t (stream.Event e) h g k);
+          stops = λ n st st′ piece t a w h s g k. step-keeps st st′ piece t a h g k;
+        })
+
+-- ---- TWO SORTS OF STEP that are the same on what the steps keep make the same run
+
+module _ {S E : Type 0} (step step′ : State S → List ℕ → Stepped S E) (P : State S → Type 0) (G : List ℕ → Type 0)
+    (drops : (n : ℕ) (p : List ℕ) → G p → G (drop n p)) (keeps : (st : State S) (p : List ℕ) → G p → P st → P (step st p .state))
+    (same : (st : State S) (p : List ℕ) → G p → P st → step st p ≡ step′ st p) where
+  pub run-same : (n : ℕ) (st : State S) (piece : List ℕ) → G piece → P st → runBy step n st piece ≡ runBy step′ n st piece
+  unfolding runBy
+  run-same =
+      each-step step {P = λ n st piece r. G piece → P st → r ≡ runBy step′ n st piece}
+      (record {
+        none = λ st piece g k. refl;
+        event = λ n st st′ piece t e h go g k.
+            ap (further t) (go (drops t piece g) (subst (λ (q : Stepped S E). P (q .state)) h (keeps st piece g k)))
+            ∙ sym (run-event step′ n st piece (sym (same st piece g k) ∙ h));
+        stops = λ n st st′ piece t a w h s g k. sym (run-stops step′ n st piece (sym (same st piece g k) ∙ h) s);
+      })
+
+module _ {S E : Type 0} (judge : S → ℕ → List ℕ → Verdict S E) where
   -- THEOREM: IT GETS ON. A live reader with a ceiling of 1 or more takes a byte at least of a piece that is not empty.
   pub run-gets-on : (n : ℕ) (s : S) (held piece : List ℕ) → frame held ≡ short → 1 ≤ n → 1 ≤ length piece → 1 ≤ runOf judge n (live s held) piece .taken
   run-gets-on n s held piece fine some h =
-      each-step {P = λ n st piece r. 1 ≤ n → 1 ≤ stepOf judge st piece .taken → 1 ≤ r .taken}
+      each-step (stepOf judge) {P = λ n st piece r. 1 ≤ n → 1 ≤ stepOf judge st piece .taken → 1 ≤ r .taken}
       (record {
         none = λ st piece some k. absurd (omega arith);
         event = λ n st st′ piece t e h go some k. omega (arith, taken-of h);
@@ -160,7 +212,7 @@ module _ {S E : Type 0} (judge : S → ℕ → List ℕ → Verdict S E) where
   pub run-finished : (n : ℕ) (st : State S) (piece : List ℕ) → Unfinished st
       → runOf judge n st piece .finished ≡ length (reading judge st (take (runOf judge n st piece .taken) piece) .events)
   run-finished =
-      each-step {P = λ n st piece r. Unfinished st → r .finished ≡ length (reading judge st (take (r .taken) piece) .events)}
+      each-step (stepOf judge) {P = λ n st piece r. Unfinished st → r .finished ≡ length (reading judge st (take (r .taken) piece) .events)}
       (record {
         none = λ st piece fine. ap (λ (q : Run S E). length (q .events)) (sym (reading-none judge st fine));
         event = λ n st st′ piece t e h go fine.
@@ -173,7 +225,7 @@ module _ {S E : Type 0} (judge : S → ℕ → List ℕ → Verdict S E) where
   pub run-state : (n : ℕ) (st : State S) (piece : List ℕ) → Unfinished st
       → runOf judge n st piece .state ≡ reading judge st (take (runOf judge n st piece .taken) piece) .state
   run-state =
-      each-step {P = λ n st piece r. Unfinished st → r .state ≡ reading judge st (take (r .taken) piece) .state}
+      each-step (stepOf judge) {P = λ n st piece r. Unfinished st → r .state ≡ reading judge st (take (r .taken) piece) .state}
       (record {
         none = λ st piece fine. ap (λ (q : Run S E). q .state) (sym (reading-none judge st fine));
         event = λ n st st′ piece t e h go fine.
@@ -218,7 +270,7 @@ module _ {S E : Type 0} (judge : S → ℕ → List ℕ → Verdict S E) where
       → (let r = runOf judge n st piece in
       Called judge st (piece ++ more) (reading judge st (take (r .taken) piece) .events) (r .state) (drop (r .taken) piece ++ more))
   run-called =
-      each-step {P = AsCalls}
+      each-step (stepOf judge) {P = AsCalls}
       (record {
         none = λ st piece more fine.
             subst (λ (q : Run S E). Called judge st (piece ++ more) (q .events) st (piece ++ more)) (sym (reading-none judge st fine)) stream.stop;
@@ -282,7 +334,7 @@ module _ {S E : Type 0} (judge : S → ℕ → List ℕ → Verdict S E) where
   event-adds d n st st′ piece t e h go =
       let r = runOf judge n st′ (drop t piece) in
       sooner n (suc d) st piece
-      ∙ run-event (n + suc d) st piece h
+      ∙ run-event (stepOf judge) (n + suc d) st piece h
       ∙ ap (further t) go
       ∙ further-onward t r (runOf judge (suc d) (r .state) (drop (r .taken) (drop t piece)))
       ∙ ap (λ (l : List ℕ). further t r onward runOf judge (suc d) (r .state) l) (drop-drop (r .taken) t piece)
@@ -292,21 +344,21 @@ module _ {S E : Type 0} (judge : S → ℕ → List ℕ → Verdict S E) where
   stop-adds d n st st′ piece t a w h s =
       let again : stepOf judge st′ (drop t piece) ≡ stepped st′ 0 a = subst (Repeats piece) h (step-repeats st piece) w s in
       sooner n (suc d) st piece
-      ∙ run-stops (n + suc d) st piece h s
+      ∙ run-stops (stepOf judge) (n + suc d) st piece h s
       ∙ halted-onward st′ t w
-      ∙ ap (λ (q : Ran S). halted st′ t w onward q) (sym (run-stops d st′ (drop t piece) again s))
+      ∙ ap (λ (q : Ran S). halted st′ t w onward q) (sym (run-stops (stepOf judge) d st′ (drop t piece) again s))
 
   -- THEOREM: A RUN AND THEN A RUN on what was not taken is one run, with the ceilings added. (The second ceiling is at least 1: with 0 a run that
   -- wanted more would be said to have stopped at the ceiling.)
   pub run-onward : (n d : ℕ) (st : State S) (piece : List ℕ)
       → (let r = runOf judge n st piece in
       runOf judge (n + suc d) st piece ≡ r onward runOf judge (suc d) (r .state) (drop (r .taken) piece))
-  run-onward n d st piece = each-step {P = Adds d} (record { none = none-adds d; event = event-adds d; stops = stop-adds d }) n st piece
+  run-onward n d st piece = each-step (stepOf judge) {P = Adds d} (record { none = none-adds d; event = event-adds d; stops = stop-adds d }) n st piece
 
   -- ---- A RUN THAT STOPPED BEFORE THE CEILING: a higher ceiling changes nothing
 
   pub at-once : (d : ℕ) (st : State S) (piece : List ℕ) → (whyAtCeiling st ≡ ceiling.Ceiling → ⊥) → runOf judge d st piece ≡ halted st 0 (whyAtCeiling st)
-  unfolding runOf stepOf
+  unfolding runBy stepOf
   at-once zero st piece h = refl
   at-once (suc d) (live s held) piece h = absurd (h refl)
   at-once (suc d) (ended s held) piece h = refl
@@ -315,11 +367,11 @@ module _ {S E : Type 0} (judge : S → ℕ → List ℕ → Verdict S E) where
   pub run-settled : (n d : ℕ) (st : State S) (piece : List ℕ) → (runOf judge n st piece .why ≡ ceiling.Ceiling → ⊥)
       → runOf judge (n + d) st piece ≡ runOf judge n st piece
   run-settled n d st piece =
-      each-step {P = λ n st piece r. (r .why ≡ ceiling.Ceiling → ⊥) → runOf judge (n + d) st piece ≡ r}
+      each-step (stepOf judge) {P = λ n st piece r. (r .why ≡ ceiling.Ceiling → ⊥) → runOf judge (n + d) st piece ≡ r}
       (record {
         none = λ st piece h. at-once (0 + d) st piece h;
-        event = λ n st st′ piece t e h go k. sooner n d st piece ∙ run-event (n + d) st piece h ∙ ap (further t) (go k);
-        stops = λ n st st′ piece t a w h s k. sooner n d st piece ∙ run-stops (n + d) st piece h s;
+        event = λ n st st′ piece t e h go k. sooner n d st piece ∙ run-event (stepOf judge) (n + d) st piece h ∙ ap (further t) (go k);
+        stops = λ n st st′ piece t a w h s k. sooner n d st piece ∙ run-stops (stepOf judge) (n + d) st piece h s;
       })
       n st piece
 
@@ -328,7 +380,7 @@ module _ {S E : Type 0} (judge : S → ℕ → List ℕ → Verdict S E) where
       → (let r = runOf judge n st piece in
       r .why ≡ ceiling.Ceiling → (whyAtCeiling (r .state) ≡ ceiling.Ceiling) × (r .finished ≡ n))
   run-at-ceiling =
-      each-step {P = λ n st piece r. r .why ≡ ceiling.Ceiling → (whyAtCeiling (r .state) ≡ ceiling.Ceiling) × (r .finished ≡ n)}
+      each-step (stepOf judge) {P = λ n st piece r. r .why ≡ ceiling.Ceiling → (whyAtCeiling (r .state) ≡ ceiling.Ceiling) × (r .finished ≡ n)}
       (record {
         none = λ st piece z. (z, refl);
         event = λ n st st′ piece t e h go z. (go z .0, ap suc (go z .1));
@@ -360,25 +412,4 @@ module _ {S E : Type 0} (judge : S → ℕ → List ℕ → Verdict S E) where
       → (let r = runOf judge n st piece in
       (whyAtCeiling (r .state) ≡ r .why) ⊎ (r .why ≡ ceiling.More))
   run-why =
-      each-step {P = λ n st piece r. (whyAtCeiling (r .state) ≡ r .why) ⊎ (r .why ≡ ceiling.More)}
-      (record {
-        none = λ st piece. inl refl;
-        event = λ n st st′ piece t e h go. go;
-        stops = λ n st st′ piece t a w h s. subst Says h (step-says st piece) w s;
-      })
-
-  -- ---- WHAT STEPS KEEP, A RUN KEEPS
-
-  module _ (P : State S → Type 0) (G : List ℕ → Type 0) (drops : (n : ℕ) (p : List ℕ) → G p → G (drop n p))
-      (keeps : (st : State S) (p : List ℕ) → G p → P st → P (stepOf judge st p .state)) where
-    step-keeps : (st st′ : State S) (piece : List ℕ) (t : ℕ) (a : Answer E) → stepOf judge st piece ≡ stepped st′ t a → G piece → P st → P st′
-    step-keeps st st′ piece t a h g k = subst (λ (q : Stepped S E). P (q .state)) h (keeps st piece g k)
-
-    pub run-keeps : (n : ℕ) (st : State S) (piece : List ℕ) → G piece → P st → P (runOf judge n st piece .state)
-    run-keeps =
-        each-step {P = λ n st piece r. G piece → P st → P (r .state)}
-        (record {
-          none = λ st piece g k. k;
-          event = λ n st st′ piece t e h go g k. go (drops t piece g) (step-keeps st st′ piece t (stream.Event e) h g k);
-          stops = λ n st st′ piece t a w h s g k. step-keeps st st′ piece t a h g k;
-        })
+      run-says (stepOf judge) (λ st w. (whyAtCeiling st ≡ w) ⊎ (w ≡ ceiling.More)) (λ st. inl refl) (λ st piece w h. step-says st piece w h)

@@ -1,10 +1,10 @@
--- W-203: steps up to a ceiling, the most packets that one call may finish. What a whole packet means is a parameter, `judge`.
+-- W-203: steps up to a ceiling, the most packets that one call may finish. What a step does is a parameter.
 -- Assumes nothing.
 use Prim.Native.Nat.{ℕ, zero, suc, _+_}
 use mathlib.Core.List.{List}
 use lib.ListN.{drop}
 use Rattle.packet.specs.Stream as stream
-use Rattle.packet.specs.Stream.{Verdict, State, live, ended, refused, Answer, stepOf}
+use Rattle.packet.specs.Stream.{Verdict, State, live, ended, refused, Answer, Stepped, stepOf}
 
 -- why a run stopped
 pub data Why : Type 0 where
@@ -40,7 +40,7 @@ module _ {S : Type 0} where
   abbrev pub further : ℕ → Ran S → Ran S
   further n q = record { state = q .state; taken = n + q .taken; finished = suc (q .finished); why = q .why }
 
-module _ {S E : Type 0} (judge : S → ℕ → List ℕ → Verdict S E) where
+module _ {S E : Type 0} where
   -- A step was made: with an event a packet is finished, and `go` runs on what was not taken; any other answer stops. A reader that has ended or
   -- refused takes nothing in a step, and says so.
   abbrev pub ranBy : (State S → List ℕ → Ran S) → List ℕ → State S → ℕ → Answer E → Ran S
@@ -49,9 +49,15 @@ module _ {S E : Type 0} (judge : S → ℕ → List ℕ → Verdict S E) where
   ranBy go piece st taken stream.Ended = halted st taken Ended
   ranBy go piece st taken (stream.Refused n) = halted st taken (Refused n)
 
+module _ {S E : Type 0} (step : State S → List ℕ → Stepped S E) where
   -- ---- A RUN: steps, until so many packets are finished
-  unfoldable pub runOf : ℕ → State S → List ℕ → Ran S
-  runOf zero st piece = halted st 0 (whyAtCeiling st)
-  runOf (suc n) st piece =
-      let r = stepOf judge st piece in
-      ranBy (runOf n) piece (r .state) (r .taken) (r .answer)
+  unfoldable pub runBy : ℕ → State S → List ℕ → Ran S
+  runBy zero st piece = halted st 0 (whyAtCeiling st)
+  runBy (suc n) st piece =
+      let r = step st piece in
+      ranBy (runBy n) piece (r .state) (r .taken) (r .answer)
+
+module _ {S E : Type 0} (judge : S → ℕ → List ℕ → Verdict S E) where
+  -- by the steps of a judge
+  abbrev pub runOf : ℕ → State S → List ℕ → Ran S
+  runOf = runBy (stepOf judge)

@@ -2,21 +2,23 @@
 -- Assumes nothing.
 use Prim.Native.Nat.{ℕ}
 use mathlib.Core.Path.{_≡_}
-use mathlib.Core.Bool.{cond}
+use mathlib.Core.Bool.{Bool, false, cond}
 use mathlib.Core.List.{List, []}
+use lib.Dec.{eqb}
 use Rattle.field.specs.Bytes.{part, overlay}
 use Rattle.packet.specs.Stream as stream
 use Rattle.packet.specs.Stream.{State, live, stepOf}
 use Rattle.packet.specs.Session.{Session, Event, soupBinTCP}
 use Rattle.packet.specs.Line.{freshLine}
 use Rattle.table.specs.Board as tables
-use Rattle.table.specs.Board.{Outcome, startOf}
+use Rattle.table.specs.Memory.{Lent}
+use Rattle.table.specs.Board.{Indexed, startOf}
 use Rattle.table.specs.declared.Verdict.{Verdict}
 use Rattle.table.specs.declared.Verdict.the-variants.{Accepted, Refused}
 use Rattle.reader.specs.Refusals.{refusalNumber}
-use Rattle.reader.specs.Deliver.{Table, Said, deliver}
-use Rattle.reader.specs.View.{noText, sessionOf, stateOf, Seen, seenOf, seen}
-use Rattle.reader.specs.Limits.{withinLimits}
+use Rattle.reader.specs.Deliver.{Table, Said, deliver, tableBy}
+use Rattle.reader.specs.View.{noText, stateOf, Seen, seenOf, seen}
+use Rattle.reader.specs.Limits.{mayStep}
 use Rattle.reader.specs.declared.Refusal.the-variants.{Unfit}
 use Rattle.reader.specs.declared.Reader.{Reader}
 use Rattle.reader.specs.declared.Stepped.{Stepped}
@@ -26,22 +28,33 @@ use Rattle.reader.specs.declared.Started.{Started}
 
 -- ---- A STEP
 
+-- W-207: where its index leads a message astray, the step takes nothing and leaves the reader, and nothing stands
+abbrev pub isUnfit : stream.Answer (Event Said) → Bool
+isUnfit (stream.Event e) = false
+isUnfit stream.More = false
+isUnfit stream.Ended = false
+isUnfit (stream.Refused n) = eqb n (refusalNumber Unfit)
+
+abbrev pub unmoved : State (Session Table) → stream.Stepped (Session Table) (Event Said)
+unmoved st = record { state = st; taken = 0; answer = stream.Refused (refusalNumber Unfit) }
+
+abbrev pub unlessUnfit : State (Session Table) → stream.Stepped (Session Table) (Event Said) → stream.Stepped (Session Table) (Event Said)
+unlessUnfit st x = cond (isUnfit (x .answer)) (unmoved st) x
+
+-- A STEP of a state: the packet is judged, and the index heeded
+unfoldable pub stepIn : State (Session Table) → List ℕ → stream.Stepped (Session Table) (Event Said)
+stepIn st piece = unlessUnfit st (stepOf (soupBinTCP deliver) st piece)
+
 -- refusal 20 takes nothing, and leaves the handle and all memory
-abbrev pub unfit : Reader → List ℕ → Seen
-unfit r memory =
-    record {
-      step = record { state = stateOf r memory; taken = 0; answer = stream.Refused (refusalNumber Unfit) };
-      used = r .used;
-      texts = noText;
-    }
+abbrev pub unfit : Reader → Lent → Seen
+unfit r memory = record { step = unmoved (stateOf r memory); used = r .used; texts = noText }
 
 -- 20 comes before all else
-unfoldable pub stepAll : Reader → List ℕ → List ℕ → Seen
-stepAll r memory piece =
-    cond (withinLimits r memory) (seen (stepOf (soupBinTCP deliver) (stateOf r memory) piece)) (unfit r memory)
+unfoldable pub stepAll : Reader → Lent → List ℕ → Seen
+stepAll r memory piece = cond (mayStep r memory) (seen (stepIn (stateOf r memory) piece)) (unfit r memory)
 
 -- THE PROMISE OF A STEP: a reader and memory were given with a piece, and an answer and memory came back
-abbrev pub Stepping : Reader → List ℕ → List ℕ → Stepped → List ℕ → Type 0
+abbrev pub Stepping : Reader → Lent → List ℕ → Stepped → Lent → Type 0
 Stepping r memory piece s after = seenOf s after ≡ stepAll r memory piece
 
 -- ---- THE PLACES OF HELD BYTES, where they are lent
@@ -59,8 +72,8 @@ placesAfter held used piece x = placesBy (x .step .answer) held (overlay held us
 -- ---- STARTING
 
 -- a fresh reader with that table
-abbrev pub freshOn : Outcome → Session Table
-freshOn o = sessionOf freshLine (o .applied .board) (o .memory)
+abbrev pub freshOn : Indexed → Session Table
+freshOn o = record { line = freshLine; about = tableBy o }
 
 -- the state, how many bytes are held, and the number of the refusal, 0 for none
 pub record Begun : Type 0 where
@@ -76,16 +89,16 @@ abbrev pub startNumber : StartAnswer → ℕ
 startNumber answer.Ready = 0
 startNumber (answer.Refused r) = refusalNumber r
 
-abbrev pub begunOf : Started → List ℕ → Begun
+abbrev pub begunOf : Started → Lent → Begun
 begunOf s memory =
     record { state = stateOf (s .reader) memory; used = s .reader .used; refusal = startNumber (s .answer) }
 
 -- the table is started; the reader is fresh, also where that is refused
-unfoldable pub startAll : List ℕ → Begun
+unfoldable pub startAll : Lent → Begun
 startAll memory =
     let o = startOf memory in
-    record { state = live (freshOn o) []; used = 0; refusal = verdictNumber (o .applied .verdict) }
+    record { state = live (freshOn o) []; used = 0; refusal = verdictNumber (o .outcome .applied .verdict) }
 
 -- THE PROMISE OF STARTING
-abbrev pub Starting : List ℕ → Started → List ℕ → Type 0
+abbrev pub Starting : Lent → Started → Lent → Type 0
 Starting memory s after = begunOf s after ≡ startAll memory

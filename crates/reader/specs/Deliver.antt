@@ -10,17 +10,18 @@ use Rattle.message.specs.Message as messages
 use Rattle.message.specs.Message.{readOf}
 use Rattle.packet.specs.Session.{Delivered, done, denied}
 use Rattle.table.specs.Board as tables
-use Rattle.table.specs.Board.{Outcome, applyOf}
+use Rattle.table.specs.Memory.{Lent, lent}
+use Rattle.table.specs.Board.{Indexed, applyOf}
 use Rattle.table.specs.declared.Board.{Board}
 use Rattle.table.specs.declared.Verdict.{Verdict}
 use Rattle.table.specs.declared.Verdict.the-variants.{Accepted, Refused}
 
--- the table: the board, and the memory with the rows
+-- the table: the board, and the memory with the rows and their index
 pub record Table : Type 0 where
   pub board : Board
-  pub memory : List ℕ
+  pub memory : Lent
 
-abbrev pub tableOf : Board → List ℕ → Table
+abbrev pub tableOf : Board → Lent → Table
 tableOf board memory = record { board = board; memory = memory }
 
 -- what an accepted message says: its record, and the texts beside it
@@ -31,13 +32,16 @@ pub record Said : Type 0 where
 abbrev pub said : Message → Texts → Said
 said message texts = record { message = message; texts = texts }
 
--- applied to the table: 13 to 16, or what it says
+-- applied to the table: 13 to 16, or 20 where its index leads astray, or what it says
 abbrev pub settledBy : Verdict → Said → Table → Delivered Table Said
 settledBy Accepted x t = done x t
 settledBy (Refused r) x t = denied (tables.refusalNumber r) t
 
-abbrev pub settled : Said → Outcome → Delivered Table Said
-settled x o = settledBy (o .applied .verdict) x (tableOf (o .applied .board) (o .memory))
+abbrev pub tableBy : Indexed → Table
+tableBy o = tableOf (o .outcome .applied .board) (lent (o .outcome .memory) (o .index))
+
+abbrev pub settled : Said → Indexed → Delivered Table Said
+settled x o = settledBy (o .outcome .applied .verdict) x (tableBy o)
 
 -- read: 10 to 12, or applied
 abbrev pub heard : Table → Texts → Answer → Delivered Table Said

@@ -15,12 +15,13 @@ use Rattle.record.specs.Places.{recordSize}
 use Rattle.record.specs.Record.{recordBytes, recordOf}
 use Rattle.record.specs.declared.Taken.{Taken}
 use Rattle.record.specs.declared.Taken.the-variants.{Is, NoRecord}
+use Rattle.table.specs.Memory.{Lent}
 use Rattle.handle.specs.Handle.{isHandle, headOf, handleBytes, placesIn}
 use Rattle.handle.specs.declared.Head.{Head}
 use Rattle.reader.specs.Refusals.{refusalNumber, named}
 use Rattle.reader.specs.Deliver.{Table, Said, said}
 use Rattle.reader.specs.View.{Seen, readerWith, stateOf, memoryIn}
-use Rattle.reader.specs.Limits.{withinLimits}
+use Rattle.reader.specs.Limits.{withinLimits, mayStep}
 use Rattle.reader.specs.Calls.{stepAll, placesAfter}
 use Rattle.reader.specs.declared.Refusal.the-variants.{Unfit}
 use Rattle.reader.specs.declared.Reader.{Reader}
@@ -35,21 +36,25 @@ readerIn bs = readerWith (headOf bs) (placesIn bs)
 unfoldable pub hostWithin : List ℕ → List ℕ → Bool
 hostWithin handle table = isHandle handle && withinLimits (readerIn handle) table
 
+-- and may step
+unfoldable pub hostMayStep : List ℕ → Lent → Bool
+hostMayStep handle memory = isHandle handle && mayStep (readerIn handle) memory
+
 -- the head of a reader in a state, that holds so many bytes
 abbrev pub headIn : State (Session Table) → ℕ → Head
 headIn (live s held) used = record { line = s .line; board = s .about .board; ended = false; refusal = 0; used = used }
 headIn (ended s held) used = record { line = s .line; board = s .about .board; ended = true; refusal = 0; used = used }
 headIn (refused s held e n) used = record { line = s .line; board = s .about .board; ended = e; refusal = n; used = used }
 
--- ---- an answer, and the handle and the table that it leaves
+-- ---- an answer, and the handle and the memory that it leaves
 
 pub record Left : Type 0 where
   pub number : ℕ
   pub handle : List ℕ
-  pub table : List ℕ
+  pub memory : Lent
 
-abbrev pub left : ℕ → List ℕ → List ℕ → Left
-left number handle table = record { number = number; handle = handle; table = table }
+abbrev pub left : ℕ → List ℕ → Lent → Left
+left number handle memory = record { number = number; handle = handle; memory = memory }
 
 -- ---- what is told
 
@@ -120,12 +125,12 @@ answerIn a memory = answerFor (kindIn a) (a % 256) memory
 
 -- ---- A STEP
 
--- a step of a handle where it lies: how many bytes were taken, the answer, and the handle and the table that it leaves
+-- a step of a handle where it lies: how many bytes were taken, the answer, and the handle and the memory that it leaves
 pub record Gone : Type 0 where
   pub taken : ℕ
   pub answer : stream.Answer (Event Said)
   pub handle : List ℕ
-  pub table : List ℕ
+  pub memory : Lent
 
 abbrev pub goneTo : Seen → List ℕ → Gone
 goneTo x held =
@@ -133,49 +138,49 @@ goneTo x held =
       taken = x .step .taken;
       answer = x .step .answer;
       handle = handleBytes (headIn (x .step .state) (x .used)) held;
-      table = memoryIn (x .step .state);
+      memory = memoryIn (x .step .state);
     }
 
-unfoldable pub movedBy : List ℕ → List ℕ → List ℕ → Gone
-movedBy handle table piece =
-    let x = stepAll (readerIn handle) table piece in
+unfoldable pub movedBy : List ℕ → Lent → List ℕ → Gone
+movedBy handle memory piece =
+    let x = stepAll (readerIn handle) memory piece in
     goneTo x (placesAfter (placesIn handle) (headOf handle .used) piece x)
 
--- an answer, and the handle, the table and the event memory that it leaves
+-- an answer, and the handle, the memory and the event memory that it leaves
 pub record Stepped : Type 0 where
   pub number : ℕ
   pub handle : List ℕ
-  pub table : List ℕ
+  pub memory : Lent
   pub event : List ℕ
 
-abbrev pub hostStepped : ℕ → List ℕ → List ℕ → List ℕ → Stepped
-hostStepped number handle table event = record { number = number; handle = handle; table = table; event = event }
+abbrev pub hostStepped : ℕ → List ℕ → Lent → List ℕ → Stepped
+hostStepped number handle memory event = record { number = number; handle = handle; memory = memory; event = event }
 
 -- the upper half of the number is the count of bytes taken
 abbrev pub turnedAs : Gone → Left
-turnedAs g = left (toldNumber (g .answer) + g .taken * 65_536) (g .handle) (g .table)
+turnedAs g = left (toldNumber (g .answer) + g .taken * 65_536) (g .handle) (g .memory)
 
 abbrev pub steppedAs : Gone → List ℕ → Stepped
 steppedAs g event =
     let l = turnedAs g in
-    hostStepped (l .number) (l .handle) (l .table) (toldMemory (g .answer) event)
+    hostStepped (l .number) (l .handle) (l .memory) (toldMemory (g .answer) event)
 
 -- 20 for event memory of another length and for bytes that are no handle, and nothing changes
-unfoldable pub stepHost : List ℕ → List ℕ → List ℕ → List ℕ → Stepped
-stepHost handle table piece event =
+unfoldable pub stepHost : List ℕ → Lent → List ℕ → List ℕ → Stepped
+stepHost handle memory piece event =
     cond (eqb (length event) recordSize && isHandle handle)
-    (steppedAs (movedBy handle table piece) event)
-    (hostStepped (toldNumber (stream.Refused (refusalNumber Unfit))) handle table event)
+    (steppedAs (movedBy handle memory piece) event)
+    (hostStepped (toldNumber (stream.Refused (refusalNumber Unfit))) handle memory event)
 
 -- THE PROMISE OF A STEP
-abbrev pub HostSteps : List ℕ → List ℕ → List ℕ → List ℕ → ℕ → List ℕ → List ℕ → List ℕ → Type 0
-HostSteps handle table piece event a handle′ table′ event′ = hostStepped a handle′ table′ event′ ≡ stepHost handle table piece event
+abbrev pub HostSteps : List ℕ → Lent → List ℕ → List ℕ → ℕ → List ℕ → Lent → List ℕ → Type 0
+HostSteps handle memory piece event a handle′ memory′ event′ = hostStepped a handle′ memory′ event′ ≡ stepHost handle memory piece event
 
 -- THE HANDLE GOES ON AS THE READER: what a step leaves of a handle is the reader that the step leaves, so that the calls of a host are
 -- those of the reader
-abbrev pub Follows : List ℕ → List ℕ → List ℕ → List ℕ → List ℕ → Type 0
-Follows handle table piece handle′ table′ = stateOf (readerIn handle′) table′ ≡ stepAll (readerIn handle) table piece .step .state
+abbrev pub Follows : List ℕ → Lent → List ℕ → List ℕ → Lent → Type 0
+Follows handle memory piece handle′ memory′ = stateOf (readerIn handle′) memory′ ≡ stepAll (readerIn handle) memory piece .step .state
 
 -- where the bytes are a handle, and event memory has its length
-abbrev pub GoesOn : List ℕ → List ℕ → List ℕ → List ℕ → List ℕ → List ℕ → Type 0
-GoesOn handle table piece event handle′ table′ = isHandle handle ≡ true → length event ≡ recordSize → Follows handle table piece handle′ table′
+abbrev pub GoesOn : List ℕ → Lent → List ℕ → List ℕ → List ℕ → Lent → Type 0
+GoesOn handle memory piece event handle′ memory′ = isHandle handle ≡ true → length event ≡ recordSize → Follows handle memory piece handle′ memory′

@@ -7,6 +7,8 @@ use lib.Dec.{eqb, leb}
 use lib.ListN.{length}
 use Rattle.field.specs.Limits.{numberInRange}
 use Rattle.packet.specs.Frame.{Framed, short, badLength, packet, frame, heldSize}
+use Rattle.table.specs.Memory.{Lent}
+use Rattle.table.specs.Index.{isIndex}
 use Rattle.table.specs.Board.{fits}
 use Rattle.handle.specs.declared.Head.{Head}
 use Rattle.reader.specs.Refusals.{standing}
@@ -30,6 +32,10 @@ holdsUnfinished r = leb (r .used) heldSize && unfinished (heldOf r)
 unfoldable pub withinLimits : Reader → List ℕ → Bool
 withinLimits r memory =
     fits (r .board) memory && (numberInRange (r .line .next) && (holdsUnfinished r && standing (r .refusal)))
+
+-- and for a step, which is lent an index, one of the right length (W-207)
+unfoldable pub mayStep : Reader → Lent → Bool
+mayStep r memory = withinLimits r (memory .table) && isIndex (memory .index)
 
 -- where the places of held bytes are lent: as many as a handle has, and the limits of the handle
 unfoldable pub lentWithin : Head → List ℕ → List ℕ → Bool

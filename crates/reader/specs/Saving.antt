@@ -4,10 +4,14 @@ use Prim.Native.Nat.{ℕ}
 use mathlib.Core.Path.{_≡_}
 use mathlib.Core.Bool.{cond}
 use mathlib.Core.List.{List, []}
+use lib.ListN.{length}
 use Rattle.packet.specs.Stream.{State, live}
 use Rattle.packet.specs.Session.{Session}
 use Rattle.packet.specs.Line.{freshLine, waiting}
 use Rattle.packet.specs.declared.Line.{Line}
+use Rattle.table.specs.Memory.{Lent, lent}
+use Rattle.table.specs.Index.{isIndex, built}
+use Rattle.table.specs.Board.{freshBoard}
 use Rattle.image.specs.Save as images
 use Rattle.image.specs.Save.{Saving, saveOf}
 use Rattle.image.specs.Restore.{Restoring, restoreOf}
@@ -60,9 +64,16 @@ Saves r memory out a after = writtenOf a after ≡ saveAll r memory out
 abbrev pub lineOf : Header → Line
 lineOf h = cond (h .known) (waiting (h .session) (h .next)) freshLine
 
+-- an accepted image's rows have their index made anew (W-207); a refused one leaves the index
+abbrev pub indexAfter : Verdict → ℕ → List ℕ → List ℕ → List ℕ
+indexAfter Accepted rows table index = built rows (length index) table
+indexAfter (Refused r) rows table index = index
+
 -- the session that an image and the memory that it left give
-abbrev pub restoredSession : Restoring → Session Table
-restoredSession o = sessionOf (lineOf (o .answer .header)) (o .answer .header .board) (o .memory)
+abbrev pub restoredSession : Restoring → List ℕ → Session Table
+restoredSession o index =
+    sessionOf (lineOf (o .answer .header)) (o .answer .header .board)
+    (lent (o .memory) (indexAfter (o .answer .verdict) (o .answer .header .board .rows) (o .memory) index))
 
 -- the state, how many bytes are held, and the number of the refusal, 0 for none
 pub record Came : Type 0 where
@@ -70,19 +81,25 @@ pub record Came : Type 0 where
   pub used : ℕ
   pub refusal : ℕ
 
+abbrev pub came : Session Table → ℕ → Came
+came s refusal = record { state = live s []; used = 0; refusal = refusal }
+
 abbrev pub restoreNumber : Verdict → ℕ
 restoreNumber Accepted = 0
 restoreNumber (Refused r) = images.refusalNumber r
 
-abbrev pub cameOf : Restored → List ℕ → Came
+abbrev pub cameOf : Restored → Lent → Came
 cameOf r memory =
     record { state = stateOf (r .reader) memory; used = r .reader .used; refusal = restoreNumber (r .verdict) }
 
-unfoldable pub restoreAll : List ℕ → List ℕ → Came
+-- 20 for index memory of the wrong length comes before the image is judged
+unfoldable pub restoreAll : List ℕ → Lent → Came
 restoreAll image memory =
-    let o = restoreOf image memory in
-    record { state = live (restoredSession o) []; used = 0; refusal = restoreNumber (o .answer .verdict) }
+    let o = restoreOf image (memory .table) in
+    cond (isIndex (memory .index))
+    (came (restoredSession o (memory .index)) (restoreNumber (o .answer .verdict)))
+    (came (sessionOf freshLine freshBoard memory) (refusalNumber Unfit))
 
 -- THE PROMISE OF RESTORING
-abbrev pub Restores : List ℕ → List ℕ → Restored → List ℕ → Type 0
+abbrev pub Restores : List ℕ → Lent → Restored → Lent → Type 0
 Restores image memory r after = cameOf r after ≡ restoreAll image memory

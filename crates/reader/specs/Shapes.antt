@@ -3,7 +3,7 @@
 use Prim.Native.Nat.{ℕ, _+_, _-_, _%_, _≤_}
 use mathlib.Core.Path.{_≡_}
 use mathlib.Core.Bool.{Bool, true, false, cond, not, _&&_}
-use mathlib.Core.List.{List}
+use mathlib.Core.List.{List, []}
 use lib.Dec.{eqb, leb}
 use lib.ListN.{length, take, drop, getD}
 use Rattle.field.specs.Bytes.{overlay, bytesBe}
@@ -12,17 +12,18 @@ use Rattle.message.specs.Message.{readOf}
 use Rattle.message.specs.Test.{tested}
 use Rattle.packet.specs.Frame.{short, frame, heldSize}
 use Rattle.packet.specs.Stream as stream
-use Rattle.packet.specs.Stream.{live, stepJudged, stepOf}
-use Rattle.packet.specs.Session.{Session, Event, Delivered, done, denied, soupBinTCP}
-use Rattle.table.specs.Memory.{Fitting}
-use Rattle.table.specs.Board.{Outcome}
+use Rattle.packet.specs.Stream.{live, stepJudged}
+use Rattle.packet.specs.Session.{Session, Event, Delivered, done, denied}
+use Rattle.table.specs.Memory.{Lent}
+use Rattle.table.specs.Index.{LentFitting}
+use Rattle.table.specs.Board.{Indexed}
 use Rattle.record.specs.Places.{recordSize}
 use Rattle.record.specs.Record.{readTo}
 use Rattle.handle.specs.Handle.{handleSize, isHandle, headOf, handleBytes, placesIn, withBoard}
 use Rattle.handle.specs.declared.Head.{Head}
-use Rattle.reader.specs.Deliver.{Table, Said, deliver}
+use Rattle.reader.specs.Deliver.{Table, Said, tableBy}
 use Rattle.reader.specs.View.{sessionOf, noText, answerOf, answerTexts, seen}
-use Rattle.reader.specs.Calls.{placesAfter, verdictNumber}
+use Rattle.reader.specs.Calls.{unlessUnfit, stepIn, placesAfter, verdictNumber}
 use Rattle.reader.specs.Handles.{Left, left, loginBytes, takenIn, kindIn, goneTo, turnedAs}
 use Rattle.reader.specs.declared.StepAnswer.{StepAnswer}
 use Rattle.reader.specs.declared.Texts.{Texts}
@@ -39,42 +40,42 @@ abbrev pub stoppedNumber : Head → ℕ
 stoppedNumber h = cond (eqb (h .refusal) 0) (cond (h .ended) 1792 2304) (2048 + h .refusal)
 
 -- it goes on
-pub record Going (handle table : List ℕ) : Type 0 where
+pub record Going (handle : List ℕ) (memory : Lent) : Type 0 where
   pub handle-is : isHandle handle ≡ true
   pub live : headOf handle .ended ≡ false
   pub unrefused : headOf handle .refusal ≡ 0
   pub some : 1 ≤ headOf handle .line .next
   pub most : headOf handle .line .next ≤ highestNumber
-  pub fitting : Fitting (headOf handle .board .rows) table
+  pub fitting : LentFitting (headOf handle .board .rows) memory
 
 -- nothing is held
-pub record Ready (handle table : List ℕ) : Type 0 where
-  pub going : Going handle table
+pub record Ready (handle : List ℕ) (memory : Lent) : Type 0 where
+  pub going : Going handle memory
   pub unheld : headOf handle .used ≡ 0
 
 -- the bytes of an unfinished packet are held
-pub record Holding (handle table : List ℕ) : Type 0 where
-  pub going : Going handle table
+pub record Holding (handle : List ℕ) (memory : Lent) : Type 0 where
+  pub going : Going handle memory
   pub start : headOf handle .used ≤ heldSize
   pub short : frame (take (headOf handle .used) (placesIn handle)) ≡ short
 
 -- the session that it is in
-abbrev pub sessionAt : List ℕ → List ℕ → Session Table
-sessionAt handle table = sessionOf (headOf handle .line) (headOf handle .board) table
+abbrev pub sessionAt : List ℕ → Lent → Session Table
+sessionAt handle memory = sessionOf (headOf handle .line) (headOf handle .board) memory
 
 -- ---- what a call leaves
 
 -- one that ends with a packet that was judged, but for the bytes that it takes: nothing is held, and the places stay
-abbrev pub closedAs : stream.Verdict (Session Table) (Event Said) → List ℕ → Left
-closedAs v handle = turnedAs (goneTo (seen (stepJudged 0 v)) (placesIn handle))
+abbrev pub closedAs : stream.Verdict (Session Table) (Event Said) → List ℕ → Lent → Left
+closedAs v handle memory = turnedAs (goneTo (seen (unlessUnfit (live (sessionAt handle memory) []) (stepJudged 0 v))) (placesIn handle))
 
 -- a step of a handle that goes on, and what it leaves
-abbrev pub stepOn : List ℕ → List ℕ → List ℕ → stream.Stepped (Session Table) (Event Said)
-stepOn handle table piece = stepOf (soupBinTCP deliver) (live (sessionAt handle table) (take (headOf handle .used) (placesIn handle))) piece
+abbrev pub stepOn : List ℕ → Lent → List ℕ → stream.Stepped (Session Table) (Event Said)
+stepOn handle memory piece = stepIn (live (sessionAt handle memory) (take (headOf handle .used) (placesIn handle))) piece
 
-abbrev pub goneOn : List ℕ → List ℕ → List ℕ → Left
-goneOn handle table piece =
-    let x = seen (stepOn handle table piece) in
+abbrev pub goneOn : List ℕ → Lent → List ℕ → Left
+goneOn handle memory piece =
+    let x = seen (stepOn handle memory piece) in
     turnedAs (goneTo x (placesAfter (placesIn handle) (headOf handle .used) piece x))
 
 -- the number of a step says that a packet was finished
@@ -106,9 +107,10 @@ pub record Tellable (number : ℕ) (handle bytes event : List ℕ) : Type 0 wher
 -- ---- a message, before its number is counted
 
 -- applied to the table, with the number of the refusal, 0 for none
-abbrev pub appliedAs : Outcome → List ℕ → Left
+abbrev pub appliedAs : Indexed → List ℕ → Left
 appliedAs o handle =
-    left (verdictNumber (o .applied .verdict)) (handleBytes (withBoard (o .applied .board) (headOf handle)) (placesIn handle)) (o .memory)
+    let t = tableBy o in
+    left (verdictNumber (o .outcome .applied .verdict)) (handleBytes (withBoard (t .board) (headOf handle)) (placesIn handle)) (t .memory)
 
 -- delivered: 0, or the refusal
 abbrev pub triedAs : Delivered Table Said → List ℕ → Left
