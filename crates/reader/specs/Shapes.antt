@@ -3,7 +3,7 @@
 use Prim.Native.Nat.{ℕ, _+_, _-_, _%_, _≤_}
 use mathlib.Core.Path.{_≡_}
 use mathlib.Core.Bool.{Bool, true, false, cond, not, _&&_}
-use mathlib.Core.List.{List, []}
+use mathlib.Core.List.{List}
 use lib.Dec.{eqb, leb}
 use lib.ListN.{length, take, drop, getD}
 use Rattle.field.specs.Bytes.{overlay, bytesBe}
@@ -12,18 +12,18 @@ use Rattle.message.specs.Message.{readOf}
 use Rattle.message.specs.Test.{tested}
 use Rattle.packet.specs.Frame.{short, frame, heldSize}
 use Rattle.packet.specs.Stream as stream
-use Rattle.packet.specs.Stream.{live, stepJudged}
-use Rattle.packet.specs.Session.{Session, Event, Delivered, done, denied}
+use Rattle.packet.specs.Stream.{live, stepJudged, stepOf}
+use Rattle.packet.specs.Session.{Session, Event, Delivered, done, denied, soupBinTCP}
 use Rattle.table.specs.Memory.{Lent}
 use Rattle.table.specs.Index.{LentFitting}
 use Rattle.table.specs.Board.{Indexed}
 use Rattle.record.specs.Places.{recordSize}
 use Rattle.record.specs.Record.{readTo}
-use Rattle.handle.specs.Handle.{handleSize, isHandle, headOf, handleBytes, placesIn, withBoard}
+use Rattle.handle.specs.Handle.{handleSize, isHandle, headOf, handleBytes, placesIn, withBoard, usedField, refusalField, withField}
 use Rattle.handle.specs.declared.Head.{Head}
-use Rattle.reader.specs.Deliver.{Table, Said, tableBy}
+use Rattle.reader.specs.Deliver.{Table, Said, deliver, tableBy}
 use Rattle.reader.specs.View.{sessionOf, noText, answerOf, answerTexts, seen}
-use Rattle.reader.specs.Calls.{unlessUnfit, stepIn, placesAfter, verdictNumber}
+use Rattle.reader.specs.Calls.{placesAfter, verdictNumber}
 use Rattle.reader.specs.Handles.{Left, left, loginBytes, takenIn, kindIn, goneTo, turnedAs}
 use Rattle.reader.specs.declared.StepAnswer.{StepAnswer}
 use Rattle.reader.specs.declared.Texts.{Texts}
@@ -66,17 +66,24 @@ sessionAt handle memory = sessionOf (headOf handle .line) (headOf handle .board)
 -- ---- what a call leaves
 
 -- one that ends with a packet that was judged, but for the bytes that it takes: nothing is held, and the places stay
-abbrev pub closedAs : stream.Verdict (Session Table) (Event Said) → List ℕ → Lent → Left
-closedAs v handle memory = turnedAs (goneTo (seen (unlessUnfit (live (sessionAt handle memory) []) (stepJudged 0 v))) (placesIn handle))
+abbrev pub closedAs : stream.Verdict (Session Table) (Event Said) → List ℕ → Left
+closedAs v handle = turnedAs (goneTo (seen (stepJudged 0 v)) (placesIn handle))
 
--- a step of a handle that goes on, and what it leaves
+-- a step of a handle that goes on, before its index is heeded, and what it leaves
 abbrev pub stepOn : List ℕ → Lent → List ℕ → stream.Stepped (Session Table) (Event Said)
-stepOn handle memory piece = stepIn (live (sessionAt handle memory) (take (headOf handle .used) (placesIn handle))) piece
+stepOn handle memory piece = stepOf (soupBinTCP deliver) (live (sessionAt handle memory) (take (headOf handle .used) (placesIn handle))) piece
 
 abbrev pub goneOn : List ℕ → Lent → List ℕ → Left
 goneOn handle memory piece =
     let x = seen (stepOn handle memory piece) in
     turnedAs (goneTo x (placesAfter (placesIn handle) (headOf handle .used) piece x))
+
+-- the number of a step says that its index led astray; then no refusal stands, and so many bytes are held
+abbrev pub isAstray : ℕ → Bool
+isAstray number = eqb (number % 65_536) 2068
+
+abbrev pub heldAgain : ℕ → List ℕ → List ℕ
+heldAgain used handle = withField usedField used (withField refusalField 0 handle)
 
 -- the number of a step says that a packet was finished
 abbrev pub tellsEvent : ℕ → Bool

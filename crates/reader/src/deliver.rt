@@ -100,16 +100,13 @@ pub fn message(
     body: &[u8],
 ) -> u32
     requires { ⌜ Ready (now handle) (lent (now table) (now index)) × ((rows ≡ headOf (now handle) .board .rows) × ((next ≡ headOf (now handle) .line .next) × (next < highestNumber))) ⌝ }
-    ensures { λ r. ⌜ left r (now (handle .exit)) (lent (now (table .exit)) (now (index .exit))) ≡ closedAs (delivered (headOf (now (handle .entry)) .line) (deliver (tableOf (headOf (now (handle .entry)) .board) (lent (now (table .entry)) (now (index .entry)))) (now (body .entry)))) (now (handle .entry)) (lent (now (table .entry)) (now (index .entry))) ⌝ }
+    ensures { λ r. ⌜ left r (now (handle .exit)) (lent (now (table .exit)) (now (index .exit))) ≡ closedAs (delivered (headOf (now (handle .entry)) .line) (deliver (tableOf (headOf (now (handle .entry)) .board) (lent (now (table .entry)) (now (index .entry)))) (now (body .entry)))) (now (handle .entry)) ⌝ }
     ensures { λ r. ⌜ r < 65_536 ⌝ }
 {
     let r = tried(rows, handle, table, index, body);
-    if r == 0 {
-        handle::put_next(numbering::number_after(next), handle);
-        return told::MESSAGE;
+    if r != 0 {
+        return told::refuse(r, handle);
     }
-    if r == told::UNFIT_NUMBER {
-        return told::UNFIT;
-    }
-    told::refuse(r, handle)
+    handle::put_next(numbering::number_after(next), handle);
+    told::MESSAGE
 }

@@ -11,7 +11,7 @@ use record::RECORD_SIZE;
 use table::Board;
 use table::index;
 ghost use mathlib.Core.Path.{_≡_};
-ghost use mathlib.Core.Bool.{true};
+ghost use mathlib.Core.Bool.{true, cond};
 ghost use lib.ListN.{length};
 ghost use Rattle.record.specs.Places.{recordSize};
 ghost use Rattle.table.specs.Memory.{lent};
@@ -19,7 +19,7 @@ ghost use Rattle.handle.specs.Handle.{handleSize, headOf, handleBytes};
 ghost use Rattle.reader.specs.View.{noText, readerWith, headPart, readyOf};
 ghost use Rattle.reader.specs.Calls.{Stepping, Starting};
 ghost use Rattle.reader.specs.Handles.{readerIn, hostWithin, hostMayStep, left, toldMemory, turnedAs, movedBy, HostSteps, GoesOn};
-ghost use Rattle.reader.specs.Shapes.{Ready, Holding, livesOn, stoppedNumber, stepOn, goneOn};
+ghost use Rattle.reader.specs.Shapes.{Ready, Holding, livesOn, stoppedNumber, stepOn, goneOn, isAstray, heldAgain};
 ghost use Rattle.reader.specs.Running.{HostRuns, RunsOn, Running};
 ghost use Rattle.reader.specs.Saving.{lineOf, Saves, Restores};
 
@@ -154,10 +154,24 @@ fn straight(rows: usize, handle: &mut [u8], table: &mut [u8], index: &mut [u8], 
         }
         Framing::Whole(size) => {
             let end = size + 2;
-            let number = packets::act(rows, handle, table, index, piece[2], &piece[3..end]);
-            told::with_taken(number, end)
+            packets::act(rows, handle, table, index, piece[2], &piece[3..end])
+                + end as u32 * told::BYTE_TAKEN
         }
     }
+}
+
+// A step that its index led astray is undone: nothing is taken, no refusal stands, and what was held is held. `number` is its number.
+fn heeded(number: u32, used: usize, handle: &mut [u8]) -> u32
+    requires { ⌜ length (now handle) ≡ handleSize ⌝ }
+    ensures { λ r. ⌜ r ≡ cond (isAstray number) 2_068 number ⌝ }
+    ensures { λ _. ⌜ now (handle .exit) ≡ cond (isAstray number) (heldAgain used (now (handle .entry))) (now (handle .entry)) ⌝ }
+{
+    if number % told::BYTE_TAKEN != told::UNFIT {
+        return number;
+    }
+    handle::put_refusal(0, handle);
+    handle::put_used(used, handle);
+    told::UNFIT
 }
 
 // The start of a packet is held: what there is room for of the piece is joined to a copy of it, read there and told.
@@ -179,12 +193,8 @@ fn mended(
     let end = used + n;
     handle::put_used(0, handle);
     let number = straight(rows, handle, table, index, &all[..end]);
-    if number == told::UNFIT {
-        handle::put_used(used, handle);
-        return number;
-    }
     told::tell(number, handle, &all[..end], event);
-    number - used as u32 * told::BYTE_TAKEN
+    heeded(number - used as u32 * told::BYTE_TAKEN, used, handle)
 }
 
 // Has a handle neither refused nor ended?
@@ -236,7 +246,7 @@ fn moved(
             return number;
         }
         told::tell(number, handle, piece, event);
-        return number;
+        return heeded(number, 0, handle);
     }
     mended(rows, used, handle, table, index, piece, event)
 }
@@ -252,7 +262,8 @@ fn turned(handle: &mut [u8], table: &mut [u8], index: &mut [u8], piece: &[u8]) -
     let rows = handle::rows(handle);
     let used = handle::used(handle);
     if used == 0 {
-        return straight(rows, handle, table, index, piece);
+        let number = straight(rows, handle, table, index, piece);
+        return heeded(number, 0, handle);
     }
     let mut unheard = [0u8; RECORD_SIZE];
     mended(rows, used, handle, table, index, piece, &mut unheard)

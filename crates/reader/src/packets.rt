@@ -41,7 +41,7 @@ fn log_in(handle: &mut [u8], body: &[u8])
 // A packet that is no message for the next number.
 fn other(handle: &mut [u8], letter: u8, body: &[u8]) -> u32
     requires { ⌜ ((t : Lent) × Ready (now handle) t) × (isMessage (packetOf (headOf (now handle) .line) letter (now body)) ≡ false) ⌝ }
-    ensures { λ r. ⌜ ((t : Lent) → left r (now (handle .exit)) t ≡ closedAs (soupBinTCP deliver (sessionAt (now (handle .entry)) t) letter (now (body .entry))) (now (handle .entry)) t) ⌝ }
+    ensures { λ r. ⌜ ((t : Lent) → left r (now (handle .exit)) t ≡ closedAs (soupBinTCP deliver (sessionAt (now (handle .entry)) t) letter (now (body .entry))) (now (handle .entry))) ⌝ }
     ensures { λ r. ⌜ r < 65_536 ⌝ }
 {
     let head = handle::read_head(handle);
@@ -76,7 +76,7 @@ pub fn act(
     body: &[u8],
 ) -> u32
     requires { ⌜ Ready (now handle) (lent (now table) (now index)) × (rows ≡ headOf (now handle) .board .rows) ⌝ }
-    ensures { λ r. ⌜ left r (now (handle .exit)) (lent (now (table .exit)) (now (index .exit))) ≡ closedAs (soupBinTCP deliver (sessionAt (now (handle .entry)) (lent (now (table .entry)) (now (index .entry)))) letter (now (body .entry))) (now (handle .entry)) (lent (now (table .entry)) (now (index .entry))) ⌝ }
+    ensures { λ r. ⌜ left r (now (handle .exit)) (lent (now (table .exit)) (now (index .exit))) ≡ closedAs (soupBinTCP deliver (sessionAt (now (handle .entry)) (lent (now (table .entry)) (now (index .entry)))) letter (now (body .entry))) (now (handle .entry)) ⌝ }
     ensures { λ r. ⌜ r < 65_536 ⌝ }
 {
     let next = handle::next(handle);

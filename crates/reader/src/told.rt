@@ -8,9 +8,8 @@ use crate::refusals;
 use packet::SESSION_SIZE;
 use record::Taken;
 ghost use mathlib.Core.Path.{_≡_};
-ghost use mathlib.Core.Bool.{cond};
 ghost use mathlib.Core.List.{List};
-ghost use Prim.Native.Nat.{ℕ, _+_, _*_, _%_, _<_};
+ghost use Prim.Native.Nat.{ℕ, _+_, _%_};
 ghost use lib.Dec.{eqb};
 ghost use lib.ListN.{length};
 ghost use Rattle.field.specs.Bytes.{part, be};
@@ -43,11 +42,8 @@ pub const REFUSED: u32 = 2048;
 // A run has finished as many packets as it was asked for.
 pub const CEILING: u32 = 2304;
 
-// Memory or a handle that does not fit, and an index that leads astray.
-pub const UNFIT_NUMBER: u8 = 20;
-
-// Refused so, and nothing was taken.
-pub const UNFIT: u32 = REFUSED + UNFIT_NUMBER as u32;
+// Refused by 20, and nothing was taken.
+pub const UNFIT: u32 = REFUSED + 20;
 
 // A ceiling that is too high, and nothing was taken.
 pub const TOO_HIGH: u32 = REFUSED + 27;
@@ -66,17 +62,6 @@ pub fn refuse(r: u8, handle: &mut [u8]) -> u32
 {
     handle::put_refusal(r, handle);
     REFUSED + r as u32
-}
-
-// The number of a packet, and the bytes that were taken for it: none where the index led astray.
-pub fn with_taken(number: u32, taken: usize) -> u32
-    requires { ⌜ (number < 65_536) × (taken < 65_536) ⌝ }
-    ensures { λ r. ⌜ r ≡ cond (eqb number 2_068) 2_068 (number + taken * 65_536) ⌝ }
-{
-    if number == UNFIT {
-        return UNFIT;
-    }
-    number + taken as u32 * BYTE_TAKEN
 }
 
 // Is the number of a step that of an accepted message?
