@@ -249,7 +249,7 @@ fn found_number(found: Sought) -> u32
 // The row for an id.
 #[no_mangle]
 pub extern "C" fn nelqubat_find(handle: &[u8], table: &[u8], index: &[u8], id: u32) -> u32
-    ensures { λ r. ⌜ r ≡ findHost (now (handle .entry)) (lent (now (table .entry)) (now (index .entry))) id ⌝ }
+    ensures { λ r. ⌜ r ≡ findHost (now (handle .entry)) (memories (now (table .entry)) (now (index .entry))) id ⌝ }
 {
     if !reader::within_limits(handle, table) {
         return 20;

@@ -28,6 +28,7 @@ use Rattle.record.proofs.Rounds.{take-back}
 use Rattle.handle.specs.Handle.{headSize, isHandle, headOf, handleBytes, placesIn}
 use Rattle.handle.proofs.Rounds.{HeadFits, head-fits, handle-length}
 use Rattle.handle.proofs.Laid.{laid-handle}
+use Rattle.table.specs.Memory.{Memories}
 use Rattle.reader.specs.Refusals.{refusalNumber, named}
 use Rattle.reader.specs.Deliver.{Table, Said, said, deliver}
 use Rattle.reader.specs.View.{Seen, seen, sessionOf, readerWith, headPart, heldOf, stateOf, memoryIn, heldIn, answerOf, answerTexts}
@@ -218,7 +219,7 @@ own-bytes handle is b =
       bytes = part-bytes (placesIn handle) 0 (headOf handle .used) (part-bytes handle headSize heldSize b);
     }
 
-module _ (handle table piece : List ℕ) (o : Own handle) where
+module _ (handle : List ℕ) (table : Memories) (piece : List ℕ) (o : Own handle) where
   abbrev r : Reader
   r = readerIn handle
 
@@ -288,7 +289,7 @@ module _ (handle table piece : List ℕ) (o : Own handle) where
 
 -- ---- THE THEOREMS
 
-module _ (handle table piece event handle′ table′ event′ : List ℕ) (a : ℕ) (o : Own handle) (p : Bytes piece)
+module _ (handle : List ℕ) (table : Memories) (piece event handle′ : List ℕ) (table′ : Memories) (event′ : List ℕ) (a : ℕ) (o : Own handle) (p : Bytes piece)
     (h : HostSteps handle table piece event a handle′ table′ event′) (long : length event ≡ recordSize) where
   abbrev x : Seen
   x = stepAll (readerIn handle) table piece
@@ -332,7 +333,7 @@ module _ (handle table piece event handle′ table′ event′ : List ℕ) (a : 
   pub taken-on : takenIn a ≡ x .step .taken
   taken-on = ap (λ (s : Stepped). takenIn (s .number)) stepped ∙ told-back .taken
 
-pub goes-on : (handle table piece event handle′ table′ event′ : List ℕ) (a : ℕ) → Bytes handle → Bytes piece
+pub goes-on : (handle : List ℕ) (table : Memories) (piece event handle′ : List ℕ) (table′ : Memories) (event′ : List ℕ) (a : ℕ) → Bytes handle → Bytes piece
     → HostSteps handle table piece event a handle′ table′ event′ → GoesOn handle table piece event handle′ table′
 goes-on handle table piece event handle′ table′ event′ a b p h is long =
     state-on handle table piece event handle′ table′ event′ a (own-bytes handle is b) p h long
@@ -340,11 +341,11 @@ goes-on handle table piece event handle′ table′ event′ a b p h is long =
 -- ---- THE STEP BY VALUE, on bytes of its own
 
 -- the texts beside an answer are its own
-texts-of : (r : Reader) (table piece : List ℕ) → stepAll r table piece .texts ≡ answerTexts (stepAll r table piece .step .answer)
+texts-of : (r : Reader) (table : Memories) (piece : List ℕ) → stepAll r table piece .texts ≡ answerTexts (stepAll r table piece .step .answer)
 unfolding stepAll
 texts-of r table piece = both (λ (x : Seen). x .texts ≡ answerTexts (x .step .answer)) (withinLimits r table) (λ _. refl) (λ _. refl)
 
-pub by-value : (r r′ : Reader) (handle table piece event handle′ table′ event′ : List ℕ) (a : ℕ) (h : Heard) → HeadFits (headPart r) → length (r .held) ≡ heldSize
+pub by-value : (r r′ : Reader) (handle : List ℕ) (table : Memories) (piece event handle′ : List ℕ) (table′ : Memories) (event′ : List ℕ) (a : ℕ) (h : Heard) → HeadFits (headPart r) → length (r .held) ≡ heldSize
     → length event ≡ recordSize → Bytes handle → Bytes piece → handle ≡ handleBytes (headPart r) (r .held)
     → HostSteps handle table piece event a handle′ table′ event′ → readBack h ≡ beside (answerIn a event′) → r′ ≡ readerIn handle′
     → Stepping r table piece (record { reader = r′; taken = takenIn a; answer = h .answer; texts = h .texts }) table′

@@ -28,7 +28,7 @@ use Rattle.message.proofs.Tested.{test-empty, test-some}
 use Rattle.packet.specs.Frame.{heldSize}
 use Rattle.packet.specs.Numbering.{numberAfter}
 use Rattle.packet.specs.Session.{Delivered, done, denied, delivered}
-use Rattle.table.specs.Memory.{Fitting}
+use Rattle.table.specs.Memory.{Memories, Fitting}
 use Rattle.table.specs.Board as tables
 use Rattle.table.specs.Board.{Outcome, withEvent, withLive, fits, effect, applyOf}
 use Rattle.table.specs.Wire.{placed}
@@ -112,8 +112,8 @@ heard-is b mem body m t f e =
 
 -- ---- placed in its row
 
-module _ (handle : List ℕ) (is : isHandle handle ≡ true) (lent : Lent handle) (body table : List ℕ) (rows : ℕ) (q : rows ≡ headOf handle .board .rows)
-    (w : Placed) (table′ : List ℕ)
+module _ (handle : List ℕ) (is : isHandle handle ≡ true) (lent : Lent handle) (body : List ℕ) (table : Memories) (rows : ℕ) (q : rows ≡ headOf handle .board .rows)
+    (w : Placed) (table′ : Memories)
     (p : (b : Board) (m : Message) (t : Texts) → b .rows ≡ rows → readOf body ≡ accepted m t → placed w b table′ ≡ effect b m t table) where
   abbrev b : Board
   b = headOf handle .board
@@ -137,7 +137,7 @@ module _ (handle : List ℕ) (is : isHandle handle ≡ true) (lent : Lent handle
 
 -- ---- S and M
 
-module _ (handle : List ℕ) (is : isHandle handle ≡ true) (lent : Lent handle) (body table : List ℕ) {handle′ : List ℕ} where
+module _ (handle : List ℕ) (is : isHandle handle ≡ true) (lent : Lent handle) (body : List ℕ) (table : Memories) {handle′ : List ℕ} where
   pub apply-event : {v : ℕ} → getD body 0 0 ≡ 83 → v ≡ be (part body 11 1) → handle′ ≡ withField eventField v handle → (m : Message) (t : Texts)
       → readOf body ≡ accepted m t → left 0 handle′ table ≡ appliedAs (effect (headOf handle .board) m t table) handle
   apply-event {v} k e g m t f =
@@ -161,7 +161,7 @@ table-some tableRefusals.NoQuotes e = omega arith
 table-some tableRefusals.FixedField e = omega arith
 table-some tableRefusals.TableFull e = omega arith
 
-module _ (handle table : List ℕ) (g : Going handle table) (lent : Lent handle) (body : List ℕ) where
+module _ (handle : List ℕ) (table : Memories) (g : Going handle table) (lent : Lent handle) (body : List ℕ) where
   abbrev here : Table
   here = tableOf (headOf handle .board) table
 
@@ -177,7 +177,7 @@ module _ (handle table : List ℕ) (g : Going handle table) (lent : Lent handle)
   tried-bad = refuses
 
   -- what was promised of the message that the bytes are
-  module _ {n r : ℕ} (e : n ≡ tested (readOf body)) (z : n ≡ 0) (handle′ table′ : List ℕ)
+  module _ {n r : ℕ} (e : n ≡ tested (readOf body)) (z : n ≡ 0) (handle′ : List ℕ) (table′ : Memories)
       (a : (m : Message) (t : Texts) → readOf body ≡ accepted m t → left r handle′ table′ ≡ appliedAs (effect (headOf handle .board) m t table) handle) where
     is-message : Passed (readOf body)
     is-message = passed (readOf body) (sym e ∙ z)
@@ -224,7 +224,7 @@ deliver-some : (t : Table) (body : List ℕ) → DeniedSome (deliver t body)
 unfolding deliver
 deliver-some t body = heard-some t (readOf body .texts) (readOf body .answer)
 
-module _ (handle table : List ℕ) (g : Ready handle table) (r : ℕ) (handle′ table′ : List ℕ) where
+module _ (handle : List ℕ) (table : Memories) (g : Ready handle table) (r : ℕ) (handle′ : List ℕ) (table′ : Memories) where
   abbrev h : Head
   h = headOf handle
 

@@ -24,6 +24,7 @@ use Rattle.handle.specs.declared.Head.{Head}
 use Rattle.handle.proofs.Rounds.{handle-length}
 use Rattle.handle.proofs.Laid.{put-over}
 use Rattle.handle.proofs.Single.{ended-put, refusal-put}
+use Rattle.table.specs.Memory.{Memories}
 use Rattle.reader.specs.Refusals.{refusalNumber}
 use Rattle.reader.specs.Deliver.{tableOf, deliver}
 use Rattle.reader.specs.Handles.{eventNumber, toldNumber, left}
@@ -129,7 +130,7 @@ is-message packet.End e = absurd (never e)
 is-message packet.Skipped e = absurd (never e)
 is-message (packet.Refused f) e = absurd (never e)
 
-module _ (handle table : List ℕ) (g : Ready handle table) (letter : ℕ) (body : List ℕ) {next : ℕ} {logged b : Bool}
+module _ (handle : List ℕ) (table : Memories) (g : Ready handle table) (letter : ℕ) (body : List ℕ) {next : ℕ} {logged b : Bool}
     (n : next ≡ headOf handle .line .next) (l : logged ≡ headOf handle .line .logged)
     (w : (x : Line) (y : List ℕ) → x .logged ≡ logged → x .next ≡ next → b ≡ isMessage (packetOf x letter y)) where
   found : b ≡ isMessage (packetOf (headOf handle .line) letter body)
@@ -140,7 +141,7 @@ module _ (handle table : List ℕ) (g : Ready handle table) (letter : ℕ) (body
   act-counts e =
       omega (arith, n, message-counts (headOf handle .line) letter body refl (is-message (packetOf (headOf handle .line) letter body) (sym found ∙ e)) (g .going .most))
 
-  pub act-message : {a : ℕ} {handle′ table′ : List ℕ} → b ≡ true
+  pub act-message : {a : ℕ} {handle′ : List ℕ} {table′ : Memories} → b ≡ true
       → left a handle′ table′ ≡ closedAs (delivered (headOf handle .line) (deliver (tableOf (headOf handle .board) table) body)) handle
       → left a handle′ table′ ≡ closedAs (soupBinTCP deliver (sessionAt handle table) letter body) handle
   unfolding soupBinTCP

@@ -24,7 +24,7 @@ use Rattle.packet.proofs.Rules.{both, and-both, not-call, not-not-call, never}
 use Rattle.handle.specs.Handle.{headSize, handleSize, isHandle, headOf}
 use Rattle.handle.specs.declared.Head.{Head}
 use Rattle.handle.proofs.Rounds.{handle-length}
-use Rattle.table.specs.Memory.{rowsFit}
+use Rattle.table.specs.Memory.{Memories, rowsFit}
 use Rattle.table.specs.Board as tables
 use Rattle.table.specs.Board.{fits, outcome, startOf}
 use Rattle.table.specs.declared.Applied.{Applied}
@@ -141,7 +141,7 @@ limits-of r memory l e = rw (eq-eqb (length (r .held)) heldSize l) at e
 pub handle-long : (handle : List ℕ) {w : Bool} → w ≡ isHandle handle → not w ≡ false → length handle ≡ handleSize
 handle-long handle {w} e f = handle-length handle (not-not-call w (isHandle handle) e f)
 
-module _ (handle table : List ℕ) {w : Bool} (e : w ≡ isHandle handle) where
+module _ (handle : List ℕ) (table : Memories) {w : Bool} (e : w ≡ isHandle handle) where
   pub host-none : not w ≡ true → false ≡ hostWithin handle table
   unfolding hostWithin
   host-none f = rw (not-call w (isHandle handle) e f)

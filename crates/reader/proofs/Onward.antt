@@ -17,7 +17,7 @@ use Rattle.packet.specs.Stream.{State, live, ended, refused, accept, finish, re
 use Rattle.packet.specs.Session.{Session, Event, login, rejected, message, heartbeat, end, skipped, soupBinTCP}
 use Rattle.packet.proofs.Rules.{and-both, never}
 use Rattle.packet.proofs.Frame.{short-fits}
-use Rattle.table.specs.Memory.{tableSize}
+use Rattle.table.specs.Memory.{Memories, tableSize}
 use Rattle.table.specs.Board.{fits}
 use Rattle.table.proofs.Ways.{rows-fitting, fitting-rows}
 use Rattle.handle.specs.Handle.{headSize, isHandle, headOf, handleBytes, placesIn}
@@ -148,7 +148,7 @@ step-idle (ended s held) piece h = absurd (never h)
 step-idle (refused s held e n) piece h = absurd (never h)
 
 -- and what has room in a handle is within its limits there
-idle-within : (st : State (Session Table)) (places table : List ℕ) → Idle st → StateFits st → length table ≡ tableSize
+idle-within : (st : State (Session Table)) (places : List ℕ) (table : Memories) → Idle st → StateFits st → length table ≡ tableSize
     → Within (readerWith (headIn st (length (heldIn st))) places) table
 unfolding fits standing frame
 idle-within (live s held) places table e f l =
@@ -175,11 +175,11 @@ idle-within (refused s held over n) places table e f l = absurd e
 
 -- ---- A STEP OF A HANDLE WITHIN ITS LIMITS
 
-pub keeps-limits : (handle table : List ℕ) → hostWithin handle table ≡ true → withinLimits (readerIn handle) table ≡ true
+pub keeps-limits : (handle : List ℕ) (table : Memories) → hostWithin handle table ≡ true → withinLimits (readerIn handle) table ≡ true
 unfolding hostWithin
 keeps-limits handle table w = and-both (isHandle handle) (withinLimits (readerIn handle) table) w .1
 
-module _ (handle table piece handle′ table′ : List ℕ) (a : ℕ) (o : Own handle) (p : Bytes piece) (w : hostWithin handle table ≡ true)
+module _ (handle : List ℕ) (table : Memories) (piece handle′ : List ℕ) (table′ : Memories) (a : ℕ) (o : Own handle) (p : Bytes piece) (w : hostWithin handle table ≡ true)
     (h : left a handle′ table′ ≡ turnedAs (movedBy handle table piece)) where
   abbrev st : State (Session Table)
   st = stateOf (readerIn handle) table

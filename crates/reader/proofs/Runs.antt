@@ -24,6 +24,7 @@ use Rattle.packet.proofs.Ceiling.{Halts, run-event, run-stops}
 use Rattle.handle.specs.Handle.{isHandle, headOf, handleBytes, placesIn}
 use Rattle.handle.specs.declared.Head.{Head}
 use Rattle.handle.proofs.Rounds.{handle-length, head-fits}
+use Rattle.table.specs.Memory.{Memories}
 use Rattle.reader.specs.Deliver.{Table, Said, deliver}
 use Rattle.reader.specs.View.{stateOf, memoryIn, heldIn}
 use Rattle.reader.specs.Handles.{readerIn, hostWithin, headIn, left, toldNumber, takenIn, turnedAs, movedBy}
@@ -44,7 +45,7 @@ abbrev past : ℕ → ℕ → ceiling.Ran (Session Table) → ceiling.Ran (Sessi
 past taken finished r = record { state = r .state; taken = taken + r .taken; finished = finished + r .finished; why = r .why }
 
 -- ---- BETWEEN TWO STEPS of a run with the ceiling n
-pub record Along (n : ℕ) (handle₀ table₀ piece handle table : List ℕ) (taken finished : ℕ) : Type 0 where
+pub record Along (n : ℕ) (handle₀ : List ℕ) (table₀ : Memories) (piece handle : List ℕ) (table : Memories) (taken finished : ℕ) : Type 0 where
   pub within : hostWithin handle table ≡ true
   pub few : finished ≤ n
   pub room : taken ≤ finished * heldSize
@@ -54,7 +55,7 @@ pub record Along (n : ℕ) (handle₀ table₀ piece handle table : List ℕ) (t
       → runOf (soupBinTCP deliver) n (stateOf (readerIn handle₀) table₀) piece
       ≡ past taken finished (runOf (soupBinTCP deliver) d (stateOf (readerIn handle) table) (drop taken piece))
 
-pub along-begins : (n : ℕ) (handle table piece : List ℕ) → hostWithin handle table ≡ true → Along n handle table piece handle table 0 0
+pub along-begins : (n : ℕ) (handle : List ℕ) (table : Memories) (piece : List ℕ) → hostWithin handle table ≡ true → Along n handle table piece handle table 0 0
 along-begins n handle table piece w =
     record {
       within = w;
@@ -89,8 +90,8 @@ event-of (stream.Refused n) f = absurd (never f)
 
 -- ---- ONE MORE STEP
 
-module _ (n : ℕ) (handle₀ table₀ piece handle table : List ℕ) (taken finished : ℕ) (g : Along n handle₀ table₀ piece handle table taken finished)
-    (b : Bytes handle) (p : Bytes piece) (more : finished < n) {a : ℕ} {handle′ table′ : List ℕ}
+module _ (n : ℕ) (handle₀ : List ℕ) (table₀ : Memories) (piece handle : List ℕ) (table : Memories) (taken finished : ℕ) (g : Along n handle₀ table₀ piece handle table taken finished)
+    (b : Bytes handle) (p : Bytes piece) (more : finished < n) {a : ℕ} {handle′ : List ℕ} {table′ : Memories}
     (h : left a handle′ table′ ≡ turnedAs (movedBy handle table (take (length piece - taken) (drop taken piece)))) where
   abbrev st : State (Session Table)
   st = stateOf (readerIn handle) table
@@ -195,7 +196,7 @@ module _ (n : ℕ) (handle₀ table₀ piece handle table : List ℕ) (taken fin
 
 -- ---- A HANDLE THAT IS LEFT as it was
 
-module _ (handle table : List ℕ) (is : isHandle handle ≡ true) (lent : Lent handle) where
+module _ (handle : List ℕ) (table : Memories) (is : isHandle handle ≡ true) (lent : Lent handle) where
   -- what is held stands at the front of its places
   pub left-as-held : (n : ℕ) → left n handle table
       ≡ left n (handleBytes (headIn (stateOf (readerIn handle) table) (headOf handle .used)) (overlay (placesIn handle) 0 (heldIn (stateOf (readerIn handle) table)))) (memoryIn (stateOf (readerIn handle) table))
@@ -214,7 +215,7 @@ stopped-why h s held true true e f = refl
 stopped-why h s held true false e f = refl
 stopped-why h s held false end e f = refl
 
-module _ (n : ℕ) (handle₀ table₀ piece handle table : List ℕ) (taken finished : ℕ) (g : Along n handle₀ table₀ piece handle table taken finished)
+module _ (n : ℕ) (handle₀ : List ℕ) (table₀ : Memories) (piece handle : List ℕ) (table : Memories) (taken finished : ℕ) (g : Along n handle₀ table₀ piece handle table taken finished)
     (lent : Lent handle) (end : n ≤ finished) where
   is : isHandle handle ≡ true
   is = within-handle handle table (g .within)

@@ -26,6 +26,7 @@ use Rattle.packet.proofs.Ceiling.{run-most, run-why, run-keeps}
 use Rattle.handle.specs.Handle.{headSize, isHandle, handleBytes, placesIn}
 use Rattle.handle.proofs.Rounds.{HeadFits, handle-length}
 use Rattle.handle.proofs.Laid.{laid-handle}
+use Rattle.table.specs.Memory.{Memories}
 use Rattle.reader.specs.Refusals.{named}
 use Rattle.reader.specs.Deliver.{Table, Said, deliver}
 use Rattle.reader.specs.View.{readerWith, headPart, heldOf, stateOf, heldIn}
@@ -151,7 +152,7 @@ pub record RunFits (x : SeenRun) (places : List ℕ) : Type 0 where
   pub why : WhyFits (x .run .why)
   pub finished : x .run .finished ≤ mostPackets
 
-module _ (handle table piece : List ℕ) (n : ℕ) (o : Own handle) (p : Bytes piece) where
+module _ (handle : List ℕ) (table : Memories) (piece : List ℕ) (n : ℕ) (o : Own handle) (p : Bytes piece) where
   abbrev r : Reader
   r = readerIn handle
 
@@ -213,7 +214,7 @@ module _ (handle table piece : List ℕ) (n : ℕ) (o : Own handle) (p : Bytes p
 
 -- ---- THE THEOREMS, of any handle that is bytes
 
-module _ (handle table piece handle′ table′ : List ℕ) (n a : ℕ) (o : Own handle) (p : Bytes piece) (h : HostRuns handle table piece n a handle′ table′) where
+module _ (handle : List ℕ) (table : Memories) (piece handle′ : List ℕ) (table′ : Memories) (n a : ℕ) (o : Own handle) (p : Bytes piece) (h : HostRuns handle table piece n a handle′ table′) where
   abbrev x : SeenRun
   x = runAll (readerIn handle) table piece n
 
@@ -249,13 +250,13 @@ module _ (handle table piece handle′ table′ : List ℕ) (n a : ℕ) (o : Own
       let b = ran-back (x .run) (fitting .why) (fitting .finished) in
       (ap runTakenIn k ∙ b .taken, (ap finishedIn k ∙ b .finished, ap whyIn k ∙ b .why))
 
-pub runs-on : (handle table piece handle′ table′ : List ℕ) (n a : ℕ) → Bytes handle → Bytes piece → HostRuns handle table piece n a handle′ table′
+pub runs-on : (handle : List ℕ) (table : Memories) (piece handle′ : List ℕ) (table′ : Memories) (n a : ℕ) → Bytes handle → Bytes piece → HostRuns handle table piece n a handle′ table′
     → RunsOn handle table piece n handle′ table′
 runs-on handle table piece handle′ table′ n a b p h is = state-ran handle table piece handle′ table′ n a (own-bytes handle is b) p h
 
 -- ---- THE WAYS THROUGH A RUN
 
-module _ (handle table piece : List ℕ) (n : ℕ) (lent : Lent handle) {b : Bool} (e : b ≡ hostWithin handle table) where
+module _ (handle : List ℕ) (table : Memories) (piece : List ℕ) (n : ℕ) (lent : Lent handle) {b : Bool} (e : b ≡ hostWithin handle table) where
   -- refused, and all is left
   stands : (q : Refusal) (k : ℕ) → k ≡ ranNumber (refusedRun q (readerIn handle) table .run) → isHandle handle ≡ true
       → left k handle table ≡ ranTo (refusedRun q (readerIn handle) table) (placesIn handle)
@@ -283,7 +284,7 @@ module _ (handle table piece : List ℕ) (n : ℕ) (lent : Lent handle) {b : Boo
     unfolding runHost runAll whyNumber
     run-high l = stands HighCeiling 2075 refl is ∙ (rw (is, keeps-limits handle table is-within, lt-leb n mostPackets l))
 
-    pub run-allowed : n ≤ mostPackets → {a : ℕ} {handle′ table′ : List ℕ}
+    pub run-allowed : n ≤ mostPackets → {a : ℕ} {handle′ : List ℕ} {table′ : Memories}
         → left a handle′ table′ ≡ ranTo (seenRun (runOf (soupBinTCP deliver) n (stateOf (readerIn handle) table) piece)) (placesIn handle)
         → HostRuns handle table piece n a handle′ table′
     unfolding runHost runAll
@@ -307,7 +308,7 @@ low-why a =
     let l : a % 65_536 % 256 ≡ a % 256 = omega arith in
     λ i. whyFor (k i) (l i)
 
-pub run-by-value : (r r′ : Reader) (handle table piece handle′ table′ : List ℕ) (n a : ℕ) (w : Why) → HeadFits (headPart r) → length (r .held) ≡ heldSize
+pub run-by-value : (r r′ : Reader) (handle : List ℕ) (table : Memories) (piece handle′ : List ℕ) (table′ : Memories) (n a : ℕ) (w : Why) → HeadFits (headPart r) → length (r .held) ≡ heldSize
     → Bytes handle → Bytes piece → handle ≡ handleBytes (headPart r) (r .held) → HostRuns handle table piece n a handle′ table′
     → whyOf w ≡ whyIn (a % 65_536) → r′ ≡ readerIn handle′
     → Running r table piece n (record { reader = r′; taken = runTakenIn a; finished = finishedIn a; why = w }) table′

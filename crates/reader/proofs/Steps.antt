@@ -34,6 +34,7 @@ use Rattle.handle.specs.declared.Head.{Head}
 use Rattle.handle.proofs.Rounds.{HeadFits, handle-length, head-fits}
 use Rattle.handle.proofs.Laid.{laid-head, laid-places, laid-handle}
 use Rattle.handle.proofs.Single.{withUsed, used-put, refusal-put, places-put}
+use Rattle.table.specs.Memory.{Memories}
 use Rattle.reader.specs.Refusals.{refusalNumber, named}
 use Rattle.reader.specs.Deliver.{Table, Said, deliver}
 use Rattle.reader.specs.View.{Seen, seen, stateOf, memoryIn}
@@ -60,7 +61,7 @@ judged-places n (refuse k s) held put = refl
 count : (a n : ℕ) → (a + 0 * 65_536) + n * 65_536 ≡ a + n * 65_536
 count a n = omega arith
 
-closed-counts : (handle piece : List ℕ) (used n : ℕ) (v : stream.Verdict (Session Table) (Event Said)) {r : ℕ} {handle′ table′ : List ℕ}
+closed-counts : (handle piece : List ℕ) (used n : ℕ) (v : stream.Verdict (Session Table) (Event Said)) {r : ℕ} {handle′ : List ℕ} {table′ : Memories}
     → left r handle′ table′ ≡ closedAs v handle
     → left (r + n * 65_536) handle′ table′ ≡ goneWith (placesIn handle) used piece (stepJudged n v)
 closed-counts handle piece used n v e = ap (λ (s : Left). left (s .number + n * 65_536) (s .handle) (s .table)) e ∙ by v
@@ -83,7 +84,7 @@ closed-counts handle piece used n v e = ap (λ (s : Left). left (s .number + n *
 pub short-room : (bs : List ℕ) {w : Framing} → w ≡ frontOf (frame bs) → w ≡ front.Short → length bs ≤ heldSize
 short-room bs e f = omega (arith, short-fits bs (short-there bs e f))
 
-module _ (handle table : List ℕ) (g : Ready handle table) (lent : Lent handle) (piece : List ℕ) {w : Framing} (e : w ≡ frontOf (frame piece)) where
+module _ (handle : List ℕ) (table : Memories) (g : Ready handle table) (lent : Lent handle) (piece : List ℕ) {w : Framing} (e : w ≡ frontOf (frame piece)) where
   abbrev h : Head
   h = headOf handle
 
@@ -121,7 +122,7 @@ module _ (handle table : List ℕ) (g : Ready handle table) (lent : Lent handle)
       (handleBytes (record { line = h .line; board = h .board; ended = g .going .live i; refusal = k i; used = g .unheld i }) held) table)
       ∙ ap taken-as (sym (lies-bad held (h .used) piece (g .unheld) (soupBinTCP deliver) (sessionAt handle table) (bad-there piece e f)))
 
-  pub straight-whole : (n : ℕ) {r : ℕ} {handle′ table′ : List ℕ} → w ≡ front.Whole n
+  pub straight-whole : (n : ℕ) {r : ℕ} {handle′ : List ℕ} {table′ : Memories} → w ≡ front.Whole n
       → left r handle′ table′ ≡ closedAs (soupBinTCP deliver (sessionAt handle table) (getD piece 2 0) (take (n + 2 - 3) (drop 3 piece))) handle
       → left (r + (n + 2) * 65_536) handle′ table′ ≡ goneOn handle table piece
   straight-whole n f a =
@@ -186,7 +187,7 @@ module _ (held piece : List ℕ) (used n : ℕ) (all : List ℕ) (c : Copied hel
   held-first = joined-past held used piece n all c (soupBinTCP deliver) s
 
   -- the bytes that were held are not counted again
-  pub mended-as : {r : ℕ} {handle′ table′ : List ℕ} → left r handle′ table′ ≡ goneWith held 0 bytes lain
+  pub mended-as : {r : ℕ} {handle′ : List ℕ} {table′ : Memories} → left r handle′ table′ ≡ goneWith held 0 bytes lain
       → left (r - used * 65_536) handle′ table′ ≡ goneWith held used piece cut
   mended-as e =
       let a : ℕ = toldNumber (lain .answer) in
@@ -202,7 +203,7 @@ module _ (held piece : List ℕ) (used n : ℕ) (all : List ℕ) (c : Copied hel
       ap (λ (y : stream.Stepped (Session Table) (Event Said)). y .answer) (sym (joined-step held used piece n all c (soupBinTCP deliver) s))
 
 -- a handle whose held bytes are taken out of it, to be read with the piece
-module _ (handle table : List ℕ) (g : Holding handle table) (lent : Lent handle) {handle₁ : List ℕ} (b : handle₁ ≡ withField usedField 0 handle) where
+module _ (handle : List ℕ) (table : Memories) (g : Holding handle table) (lent : Lent handle) {handle₁ : List ℕ} (b : handle₁ ≡ withField usedField 0 handle) where
   is : isHandle handle ≡ true
   is = g .going .handle-is
 
@@ -264,13 +265,13 @@ module _ (handle table : List ℕ) (g : Holding handle table) (lent : Lent handl
         ap (λ (x : stream.Stepped (Session Table) (Event Said)). goneWith (placesIn handle₁) (headOf handle₁ .used) bytes-there x) step-there
         ∙ (λ i. goneWith (places-unheld i) (head-unheld i .used) bytes-there stepped-there)
 
-    pub mended-past : {r : ℕ} {handle′ table′ : List ℕ} → left r handle′ table′ ≡ goneOn handle₁ table bytes-there → used * 65_536 ≤ r
+    pub mended-past : {r : ℕ} {handle′ : List ℕ} {table′ : Memories} → left r handle′ table′ ≡ goneOn handle₁ table bytes-there → used * 65_536 ≤ r
     mended-past e =
         let a = toldNumber (stepped-there .answer) in
         let k = ap (λ (x : Left). x .number) (e ∙ gone-there) in
         omega (arith, k, held-first (placesIn handle) piece used n all behind (sessionAt handle table))
 
-    pub mended-whole : {r : ℕ} {handle′ table′ : List ℕ} → left r handle′ table′ ≡ goneOn handle₁ table bytes-there
+    pub mended-whole : {r : ℕ} {handle′ : List ℕ} {table′ : Memories} → left r handle′ table′ ≡ goneOn handle₁ table bytes-there
         → left (r - used * 65_536) handle′ table′ ≡ goneOn handle table piece
     mended-whole e =
         mended-as (placesIn handle) piece used n all behind (sessionAt handle table) (e ∙ gone-there)
@@ -292,7 +293,7 @@ module _ (handle table : List ℕ) (g : Holding handle table) (lent : Lent handl
 
 -- ---- any handle
 
-pub within-handle : (handle table : List ℕ) → hostWithin handle table ≡ true → isHandle handle ≡ true
+pub within-handle : (handle : List ℕ) (table : Memories) → hostWithin handle table ≡ true → isHandle handle ≡ true
 unfolding hostWithin
 within-handle handle table w = and-both (isHandle handle) (withinLimits (readerIn handle) table) w .0
 
@@ -313,7 +314,7 @@ module _ (h : Head) where
   pub stopped-ceiling : {n : ℕ} {b : Bool} → n ≡ h .refusal → n ≡ 0 → b ≡ h .ended → b ≡ false → 2304 ≡ stoppedNumber h
   stopped-ceiling e z f y = rw (eq-eqb (h .refusal) 0 (sym e ∙ z), sym f ∙ y)
 
-module _ (handle table piece : List ℕ) where
+module _ (handle : List ℕ) (table : Memories) (piece : List ℕ) where
   gone-moved : {x : Seen} → x ≡ stepAll (readerIn handle) table piece
       → turnedAs (goneTo x (placesAfter (placesIn handle) (headOf handle .used) piece x)) ≡ turnedAs (movedBy handle table piece)
   unfolding movedBy
@@ -406,7 +407,7 @@ module _ (handle table piece : List ℕ) where
           unfolding stepAll
           goes = rw (keeps, lives .1) (simp (eq-eqb (h₁ .refusal) 0 (lives .0)))
 
-          pub turned-live : {a : ℕ} {handle′ table′ : List ℕ} → left a handle′ table′ ≡ goneOn handle table piece
+          pub turned-live : {a : ℕ} {handle′ : List ℕ} {table′ : Memories} → left a handle′ table′ ≡ goneOn handle table piece
               → left a handle′ table′ ≡ turnedAs (movedBy handle table piece)
           turned-live k = k ∙ gone-moved (sym goes)
 
@@ -427,7 +428,7 @@ module _ (handle table piece : List ℕ) where
 
     module _ (l : length event ≡ recordSize) (is : isHandle handle ≡ true) where
       -- what is left, and what is told
-      pub steps-told : {a : ℕ} {handle′ table′ event′ : List ℕ} → left a handle′ table′ ≡ turnedAs (movedBy handle table piece)
+      pub steps-told : {a : ℕ} {handle′ : List ℕ} {table′ : Memories} {event′ : List ℕ} → left a handle′ table′ ≡ turnedAs (movedBy handle table piece)
           → event′ ≡ toldMemory (movedBy handle table piece .answer) event → HostSteps handle table piece event a handle′ table′ event′
       unfolding stepHost
       steps-told e f =

@@ -38,6 +38,7 @@ use Rattle.handle.specs.Handle.{handleSize, headOf, handleBytes, placesIn}
 use Rattle.handle.specs.declared.Head.{Head}
 use Rattle.handle.proofs.Rounds.{handle-length, head-fits}
 use Rattle.handle.proofs.Laid.{laid-head}
+use Rattle.table.specs.Memory.{Memories}
 use Rattle.reader.specs.Deliver.{Table, tableOf, Said, said, settledBy, heard, deliver}
 use Rattle.reader.specs.View.{seen, sessionIn, heldIn}
 use Rattle.reader.specs.Calls.{placesAfter}
@@ -114,8 +115,8 @@ packet-tells s letter body =
 
 -- ---- TOLD: what stands there is what a step tells
 
-module _ (handle table piece event : List ℕ) (g : Ready handle table) (own : Bytes handle) (given : Bytes piece) (long : length event ≡ recordSize)
-    {number : ℕ} {handle′ table′ : List ℕ} (size : length handle′ ≡ handleSize) (e : left number handle′ table′ ≡ goneOn handle table piece) where
+module _ (handle : List ℕ) (table : Memories) (piece event : List ℕ) (g : Ready handle table) (own : Bytes handle) (given : Bytes piece) (long : length event ≡ recordSize)
+    {number : ℕ} {handle′ : List ℕ} {table′ : Memories} (size : length handle′ ≡ handleSize) (e : left number handle′ table′ ≡ goneOn handle table piece) where
   abbrev st : stream.Stepped (Session Table) (Event Said)
   st = stepOn handle table piece
 

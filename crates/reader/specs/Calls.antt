@@ -11,7 +11,7 @@ use Rattle.packet.specs.Stream.{State, live, stepOf}
 use Rattle.packet.specs.Session.{Session, Event, soupBinTCP}
 use Rattle.packet.specs.Line.{freshLine}
 use Rattle.table.specs.Board as tables
-use Rattle.table.specs.Memory.{Lent}
+use Rattle.table.specs.Memory.{Memories}
 use Rattle.table.specs.Board.{Indexed, startOf}
 use Rattle.table.specs.declared.Verdict.{Verdict}
 use Rattle.table.specs.declared.Verdict.the-variants.{Accepted, Refused}
@@ -46,15 +46,15 @@ unfoldable pub stepIn : State (Session Table) → List ℕ → stream.Stepped (S
 stepIn st piece = unlessUnfit st (stepOf (soupBinTCP deliver) st piece)
 
 -- refusal 20 takes nothing, and leaves the handle and all memory
-abbrev pub unfit : Reader → Lent → Seen
+abbrev pub unfit : Reader → Memories → Seen
 unfit r memory = record { step = unmoved (stateOf r memory); used = r .used; texts = noText }
 
 -- 20 comes before all else
-unfoldable pub stepAll : Reader → Lent → List ℕ → Seen
+unfoldable pub stepAll : Reader → Memories → List ℕ → Seen
 stepAll r memory piece = cond (mayStep r memory) (seen (stepIn (stateOf r memory) piece)) (unfit r memory)
 
 -- THE PROMISE OF A STEP: a reader and memory were given with a piece, and an answer and memory came back
-abbrev pub Stepping : Reader → Lent → List ℕ → Stepped → Lent → Type 0
+abbrev pub Stepping : Reader → Memories → List ℕ → Stepped → Memories → Type 0
 Stepping r memory piece s after = seenOf s after ≡ stepAll r memory piece
 
 -- ---- THE PLACES OF HELD BYTES, where they are lent
@@ -89,16 +89,16 @@ abbrev pub startNumber : StartAnswer → ℕ
 startNumber answer.Ready = 0
 startNumber (answer.Refused r) = refusalNumber r
 
-abbrev pub begunOf : Started → Lent → Begun
+abbrev pub begunOf : Started → Memories → Begun
 begunOf s memory =
     record { state = stateOf (s .reader) memory; used = s .reader .used; refusal = startNumber (s .answer) }
 
 -- the table is started; the reader is fresh, also where that is refused
-unfoldable pub startAll : Lent → Begun
+unfoldable pub startAll : Memories → Begun
 startAll memory =
     let o = startOf memory in
     record { state = live (freshOn o) []; used = 0; refusal = verdictNumber (o .outcome .applied .verdict) }
 
 -- THE PROMISE OF STARTING
-abbrev pub Starting : Lent → Started → Lent → Type 0
+abbrev pub Starting : Memories → Started → Memories → Type 0
 Starting memory s after = begunOf s after ≡ startAll memory

@@ -10,7 +10,7 @@ use Rattle.message.specs.Message as messages
 use Rattle.message.specs.Message.{readOf}
 use Rattle.packet.specs.Session.{Delivered, done, denied}
 use Rattle.table.specs.Board as tables
-use Rattle.table.specs.Memory.{Lent, lent}
+use Rattle.table.specs.Memory.{Memories, memories}
 use Rattle.table.specs.Board.{Indexed, applyOf}
 use Rattle.table.specs.declared.Board.{Board}
 use Rattle.table.specs.declared.Verdict.{Verdict}
@@ -19,9 +19,9 @@ use Rattle.table.specs.declared.Verdict.the-variants.{Accepted, Refused}
 -- the table: the board, and the memory with the rows and their index
 pub record Table : Type 0 where
   pub board : Board
-  pub memory : Lent
+  pub memory : Memories
 
-abbrev pub tableOf : Board → Lent → Table
+abbrev pub tableOf : Board → Memories → Table
 tableOf board memory = record { board = board; memory = memory }
 
 -- what an accepted message says: its record, and the texts beside it
@@ -38,7 +38,7 @@ settledBy Accepted x t = done x t
 settledBy (Refused r) x t = denied (tables.refusalNumber r) t
 
 abbrev pub tableBy : Indexed → Table
-tableBy o = tableOf (o .outcome .applied .board) (lent (o .outcome .memory) (o .index))
+tableBy o = tableOf (o .outcome .applied .board) (memories (o .outcome .memory) (o .index))
 
 abbrev pub settled : Said → Indexed → Delivered Table Said
 settled x o = settledBy (o .outcome .applied .verdict) x (tableBy o)

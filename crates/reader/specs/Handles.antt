@@ -15,7 +15,7 @@ use Rattle.record.specs.Places.{recordSize}
 use Rattle.record.specs.Record.{recordBytes, recordOf}
 use Rattle.record.specs.declared.Taken.{Taken}
 use Rattle.record.specs.declared.Taken.the-variants.{Is, NoRecord}
-use Rattle.table.specs.Memory.{Lent}
+use Rattle.table.specs.Memory.{Memories}
 use Rattle.handle.specs.Handle.{isHandle, headOf, handleBytes, placesIn}
 use Rattle.handle.specs.declared.Head.{Head}
 use Rattle.reader.specs.Refusals.{refusalNumber, named}
@@ -37,7 +37,7 @@ unfoldable pub hostWithin : List ℕ → List ℕ → Bool
 hostWithin handle table = isHandle handle && withinLimits (readerIn handle) table
 
 -- and may step
-unfoldable pub hostMayStep : List ℕ → Lent → Bool
+unfoldable pub hostMayStep : List ℕ → Memories → Bool
 hostMayStep handle memory = isHandle handle && mayStep (readerIn handle) memory
 
 -- the head of a reader in a state, that holds so many bytes
@@ -51,9 +51,9 @@ headIn (refused s held e n) used = record { line = s .line; board = s .about .bo
 pub record Left : Type 0 where
   pub number : ℕ
   pub handle : List ℕ
-  pub memory : Lent
+  pub memory : Memories
 
-abbrev pub left : ℕ → List ℕ → Lent → Left
+abbrev pub left : ℕ → List ℕ → Memories → Left
 left number handle memory = record { number = number; handle = handle; memory = memory }
 
 -- ---- what is told
@@ -130,7 +130,7 @@ pub record Gone : Type 0 where
   pub taken : ℕ
   pub answer : stream.Answer (Event Said)
   pub handle : List ℕ
-  pub memory : Lent
+  pub memory : Memories
 
 abbrev pub goneTo : Seen → List ℕ → Gone
 goneTo x held =
@@ -141,7 +141,7 @@ goneTo x held =
       memory = memoryIn (x .step .state);
     }
 
-unfoldable pub movedBy : List ℕ → Lent → List ℕ → Gone
+unfoldable pub movedBy : List ℕ → Memories → List ℕ → Gone
 movedBy handle memory piece =
     let x = stepAll (readerIn handle) memory piece in
     goneTo x (placesAfter (placesIn handle) (headOf handle .used) piece x)
@@ -150,10 +150,10 @@ movedBy handle memory piece =
 pub record Stepped : Type 0 where
   pub number : ℕ
   pub handle : List ℕ
-  pub memory : Lent
+  pub memory : Memories
   pub event : List ℕ
 
-abbrev pub hostStepped : ℕ → List ℕ → Lent → List ℕ → Stepped
+abbrev pub hostStepped : ℕ → List ℕ → Memories → List ℕ → Stepped
 hostStepped number handle memory event = record { number = number; handle = handle; memory = memory; event = event }
 
 -- the upper half of the number is the count of bytes taken
@@ -166,21 +166,21 @@ steppedAs g event =
     hostStepped (l .number) (l .handle) (l .memory) (toldMemory (g .answer) event)
 
 -- 20 for event memory of another length and for bytes that are no handle, and nothing changes
-unfoldable pub stepHost : List ℕ → Lent → List ℕ → List ℕ → Stepped
+unfoldable pub stepHost : List ℕ → Memories → List ℕ → List ℕ → Stepped
 stepHost handle memory piece event =
     cond (eqb (length event) recordSize && isHandle handle)
     (steppedAs (movedBy handle memory piece) event)
     (hostStepped (toldNumber (stream.Refused (refusalNumber Unfit))) handle memory event)
 
 -- THE PROMISE OF A STEP
-abbrev pub HostSteps : List ℕ → Lent → List ℕ → List ℕ → ℕ → List ℕ → Lent → List ℕ → Type 0
+abbrev pub HostSteps : List ℕ → Memories → List ℕ → List ℕ → ℕ → List ℕ → Memories → List ℕ → Type 0
 HostSteps handle memory piece event a handle′ memory′ event′ = hostStepped a handle′ memory′ event′ ≡ stepHost handle memory piece event
 
 -- THE HANDLE GOES ON AS THE READER: what a step leaves of a handle is the reader that the step leaves, so that the calls of a host are
 -- those of the reader
-abbrev pub Follows : List ℕ → Lent → List ℕ → List ℕ → Lent → Type 0
+abbrev pub Follows : List ℕ → Memories → List ℕ → List ℕ → Memories → Type 0
 Follows handle memory piece handle′ memory′ = stateOf (readerIn handle′) memory′ ≡ stepAll (readerIn handle) memory piece .step .state
 
 -- where the bytes are a handle, and event memory has its length
-abbrev pub GoesOn : List ℕ → Lent → List ℕ → List ℕ → List ℕ → Lent → Type 0
+abbrev pub GoesOn : List ℕ → Memories → List ℕ → List ℕ → List ℕ → Memories → Type 0
 GoesOn handle memory piece event handle′ memory′ = isHandle handle ≡ true → length event ≡ recordSize → Follows handle memory piece handle′ memory′

@@ -7,7 +7,7 @@ use lib.Dec.{eqb, leb}
 use lib.ListN.{length}
 use Rattle.field.specs.Limits.{numberInRange}
 use Rattle.packet.specs.Frame.{Framed, short, badLength, packet, frame, heldSize}
-use Rattle.table.specs.Memory.{Lent}
+use Rattle.table.specs.Memory.{Memories}
 use Rattle.table.specs.Index.{isIndex}
 use Rattle.table.specs.Board.{fits}
 use Rattle.handle.specs.declared.Head.{Head}
@@ -34,7 +34,7 @@ withinLimits r memory =
     fits (r .board) memory && (numberInRange (r .line .next) && (holdsUnfinished r && standing (r .refusal)))
 
 -- and for a step, which is lent an index, one of the right length (W-207)
-unfoldable pub mayStep : Reader → Lent → Bool
+unfoldable pub mayStep : Reader → Memories → Bool
 mayStep r memory = withinLimits r (memory .table) && isIndex (memory .index)
 
 -- where the places of held bytes are lent: as many as a handle has, and the limits of the handle

@@ -10,7 +10,7 @@ use Rattle.field.specs.Bytes.{overlay}
 use Rattle.packet.specs.Ceiling as ceiling
 use Rattle.packet.specs.Ceiling.{halted, runBy}
 use Rattle.packet.specs.Session.{Session}
-use Rattle.table.specs.Memory.{Lent}
+use Rattle.table.specs.Memory.{Memories}
 use Rattle.handle.specs.Handle.{isHandle, handleBytes, placesIn}
 use Rattle.reader.specs.Refusals.{refusalNumber, named}
 use Rattle.reader.specs.Deliver.{Table}
@@ -45,7 +45,7 @@ whyOf (why.Refused r) = ceiling.Refused (refusalNumber r)
 whyOf why.Ceiling = ceiling.Ceiling
 whyOf why.More = ceiling.More
 
-abbrev pub seenRunOf : Ran → Lent → SeenRun
+abbrev pub seenRunOf : Ran → Memories → SeenRun
 seenRunOf x memory =
     record {
       run = record { state = stateOf (x .reader) memory; taken = x .taken; finished = x .finished; why = whyOf (x .why) };
@@ -53,18 +53,18 @@ seenRunOf x memory =
     }
 
 -- a call that is refused itself takes nothing, finishes nothing, and leaves the handle and all memory
-abbrev pub refusedRun : Refusal → Reader → Lent → SeenRun
+abbrev pub refusedRun : Refusal → Reader → Memories → SeenRun
 refusedRun x r memory = record { run = halted (stateOf r memory) 0 (ceiling.Refused (refusalNumber x)); used = r .used }
 
 -- 20 comes before all else, and then 27
-unfoldable pub runAll : Reader → Lent → List ℕ → ℕ → SeenRun
+unfoldable pub runAll : Reader → Memories → List ℕ → ℕ → SeenRun
 runAll r memory piece n =
     cond (mayStep r memory)
     (cond (leb n mostPackets) (seenRun (runBy stepIn n (stateOf r memory) piece)) (refusedRun HighCeiling r memory))
     (refusedRun Unfit r memory)
 
 -- THE PROMISE OF A RUN: a reader and memory were given with a piece and a ceiling, and an answer and memory came back
-abbrev pub Running : Reader → Lent → List ℕ → ℕ → Ran → Lent → Type 0
+abbrev pub Running : Reader → Memories → List ℕ → ℕ → Ran → Memories → Type 0
 Running r memory piece n x after = seenRunOf x after ≡ runAll r memory piece n
 
 -- ---- A RUN, on memory that the host lends
@@ -86,18 +86,18 @@ ranTo x places =
     left (ranNumber (x .run)) (handleBytes (headIn (x .run .state) (x .used)) (overlay places 0 (heldIn (x .run .state)))) (memoryIn (x .run .state))
 
 -- 20 for bytes that are no handle, and nothing changes
-unfoldable pub runHost : List ℕ → Lent → List ℕ → ℕ → Left
+unfoldable pub runHost : List ℕ → Memories → List ℕ → ℕ → Left
 runHost handle memory piece n =
     cond (isHandle handle)
     (ranTo (runAll (readerIn handle) memory piece n) (placesIn handle))
     (left (whyNumber (ceiling.Refused (refusalNumber Unfit))) handle memory)
 
 -- THE PROMISE OF A RUN
-abbrev pub HostRuns : List ℕ → Lent → List ℕ → ℕ → ℕ → List ℕ → Lent → Type 0
+abbrev pub HostRuns : List ℕ → Memories → List ℕ → ℕ → ℕ → List ℕ → Memories → Type 0
 HostRuns handle memory piece n a handle′ memory′ = left a handle′ memory′ ≡ runHost handle memory piece n
 
 -- THE HANDLE GOES ON AS THE READER, where the bytes are a handle
-abbrev pub RunsOn : List ℕ → Lent → List ℕ → ℕ → List ℕ → Lent → Type 0
+abbrev pub RunsOn : List ℕ → Memories → List ℕ → ℕ → List ℕ → Memories → Type 0
 RunsOn handle memory piece n handle′ memory′ =
     isHandle handle ≡ true → stateOf (readerIn handle′) memory′ ≡ runAll (readerIn handle) memory piece n .run .state
 

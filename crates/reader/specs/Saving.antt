@@ -9,7 +9,7 @@ use Rattle.packet.specs.Stream.{State, live}
 use Rattle.packet.specs.Session.{Session}
 use Rattle.packet.specs.Line.{freshLine, waiting}
 use Rattle.packet.specs.declared.Line.{Line}
-use Rattle.table.specs.Memory.{Lent, lent}
+use Rattle.table.specs.Memory.{Memories, memories}
 use Rattle.table.specs.Index.{isIndex, built}
 use Rattle.table.specs.Board.{freshBoard}
 use Rattle.image.specs.Save as images
@@ -54,7 +54,7 @@ saveAll r memory out =
     (writtenBy (saveOf (headerOf r) memory out))
     (record { refusal = refusalNumber Unfit; count = 0; out = out })
 
--- THE PROMISE OF SAVING: table memory and an output were lent, and an answer came and the output was left so
+-- THE PROMISE OF SAVING: table memory and an output were memories, and an answer came and the output was left so
 abbrev pub Saves : Reader → List ℕ → List ℕ → Saved → List ℕ → Type 0
 Saves r memory out a after = writtenOf a after ≡ saveAll r memory out
 
@@ -73,7 +73,7 @@ indexAfter (Refused r) rows table index = index
 abbrev pub restoredSession : Restoring → List ℕ → Session Table
 restoredSession o index =
     sessionOf (lineOf (o .answer .header)) (o .answer .header .board)
-    (lent (o .memory) (indexAfter (o .answer .verdict) (o .answer .header .board .rows) (o .memory) index))
+    (memories (o .memory) (indexAfter (o .answer .verdict) (o .answer .header .board .rows) (o .memory) index))
 
 -- the state, how many bytes are held, and the number of the refusal, 0 for none
 pub record Came : Type 0 where
@@ -88,12 +88,12 @@ abbrev pub restoreNumber : Verdict → ℕ
 restoreNumber Accepted = 0
 restoreNumber (Refused r) = images.refusalNumber r
 
-abbrev pub cameOf : Restored → Lent → Came
+abbrev pub cameOf : Restored → Memories → Came
 cameOf r memory =
     record { state = stateOf (r .reader) memory; used = r .reader .used; refusal = restoreNumber (r .verdict) }
 
 -- 20 for index memory of the wrong length comes before the image is judged
-unfoldable pub restoreAll : List ℕ → Lent → Came
+unfoldable pub restoreAll : List ℕ → Memories → Came
 restoreAll image memory =
     let o = restoreOf image (memory .table) in
     cond (isIndex (memory .index))
@@ -101,5 +101,5 @@ restoreAll image memory =
     (came (sessionOf freshLine freshBoard memory) (refusalNumber Unfit))
 
 -- THE PROMISE OF RESTORING
-abbrev pub Restores : List ℕ → Lent → Restored → Lent → Type 0
+abbrev pub Restores : List ℕ → Memories → Restored → Memories → Type 0
 Restores image memory r after = cameOf r after ≡ restoreAll image memory

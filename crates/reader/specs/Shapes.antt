@@ -14,7 +14,7 @@ use Rattle.packet.specs.Frame.{short, frame, heldSize}
 use Rattle.packet.specs.Stream as stream
 use Rattle.packet.specs.Stream.{live, stepJudged, stepOf}
 use Rattle.packet.specs.Session.{Session, Event, Delivered, done, denied, soupBinTCP}
-use Rattle.table.specs.Memory.{Lent}
+use Rattle.table.specs.Memory.{Memories}
 use Rattle.table.specs.Index.{LentFitting}
 use Rattle.table.specs.Board.{Indexed}
 use Rattle.record.specs.Places.{recordSize}
@@ -40,7 +40,7 @@ abbrev pub stoppedNumber : Head → ℕ
 stoppedNumber h = cond (eqb (h .refusal) 0) (cond (h .ended) 1792 2304) (2048 + h .refusal)
 
 -- it goes on
-pub record Going (handle : List ℕ) (memory : Lent) : Type 0 where
+pub record Going (handle : List ℕ) (memory : Memories) : Type 0 where
   pub handle-is : isHandle handle ≡ true
   pub live : headOf handle .ended ≡ false
   pub unrefused : headOf handle .refusal ≡ 0
@@ -49,18 +49,18 @@ pub record Going (handle : List ℕ) (memory : Lent) : Type 0 where
   pub fitting : LentFitting (headOf handle .board .rows) memory
 
 -- nothing is held
-pub record Ready (handle : List ℕ) (memory : Lent) : Type 0 where
+pub record Ready (handle : List ℕ) (memory : Memories) : Type 0 where
   pub going : Going handle memory
   pub unheld : headOf handle .used ≡ 0
 
 -- the bytes of an unfinished packet are held
-pub record Holding (handle : List ℕ) (memory : Lent) : Type 0 where
+pub record Holding (handle : List ℕ) (memory : Memories) : Type 0 where
   pub going : Going handle memory
   pub start : headOf handle .used ≤ heldSize
   pub short : frame (take (headOf handle .used) (placesIn handle)) ≡ short
 
 -- the session that it is in
-abbrev pub sessionAt : List ℕ → Lent → Session Table
+abbrev pub sessionAt : List ℕ → Memories → Session Table
 sessionAt handle memory = sessionOf (headOf handle .line) (headOf handle .board) memory
 
 -- ---- what a call leaves
@@ -70,10 +70,10 @@ abbrev pub closedAs : stream.Verdict (Session Table) (Event Said) → List ℕ �
 closedAs v handle = turnedAs (goneTo (seen (stepJudged 0 v)) (placesIn handle))
 
 -- a step of a handle that goes on, before its index is heeded, and what it leaves
-abbrev pub stepOn : List ℕ → Lent → List ℕ → stream.Stepped (Session Table) (Event Said)
+abbrev pub stepOn : List ℕ → Memories → List ℕ → stream.Stepped (Session Table) (Event Said)
 stepOn handle memory piece = stepOf (soupBinTCP deliver) (live (sessionAt handle memory) (take (headOf handle .used) (placesIn handle))) piece
 
-abbrev pub goneOn : List ℕ → Lent → List ℕ → Left
+abbrev pub goneOn : List ℕ → Memories → List ℕ → Left
 goneOn handle memory piece =
     let x = seen (stepOn handle memory piece) in
     turnedAs (goneTo x (placesAfter (placesIn handle) (headOf handle .used) piece x))

@@ -12,7 +12,7 @@ use Rattle.packet.specs.Session as packets
 use Rattle.packet.specs.Session.{Session, Event}
 use Rattle.packet.specs.Frame.{heldSize}
 use Rattle.packet.specs.declared.Line.{Line}
-use Rattle.table.specs.Memory.{Lent}
+use Rattle.table.specs.Memory.{Memories}
 use Rattle.table.specs.declared.Board.{Board}
 use Rattle.handle.specs.declared.Head.{Head}
 use Rattle.reader.specs.Deliver.{Table, tableOf, Said, said}
@@ -27,7 +27,7 @@ use Rattle.reader.specs.declared.Stepped.{Stepped}
 
 -- ---- a session: the line, and the table that its messages are about
 
-abbrev pub sessionOf : Line → Board → Lent → Session Table
+abbrev pub sessionOf : Line → Board → Memories → Session Table
 sessionOf line board memory = record { line = line; about = tableOf board memory }
 
 -- ---- texts beside an event, zeros where it has none
@@ -74,7 +74,7 @@ stateAt refusal end s held = cond (eqb refusal 0) (cond end (ended s held) (live
 abbrev pub heldOf : Reader → List ℕ
 heldOf r = take (r .used) (r .held)
 
-abbrev pub stateOf : Reader → Lent → State (Session Table)
+abbrev pub stateOf : Reader → Memories → State (Session Table)
 stateOf r memory = stateAt (r .refusal) (r .ended) (sessionOf (r .line) (r .board) memory) (heldOf r)
 
 -- one that holds nothing and has neither ended nor refused
@@ -95,11 +95,11 @@ answerOf texts answer.More = stream.More
 answerOf texts answer.Ended = stream.Ended
 answerOf texts (answer.Refused r) = stream.Refused (refusalNumber r)
 
-abbrev pub steppedOf : Stepped → Lent → stream.Stepped (Session Table) (Event Said)
+abbrev pub steppedOf : Stepped → Memories → stream.Stepped (Session Table) (Event Said)
 steppedOf s memory =
     record { state = stateOf (s .reader) memory; taken = s .taken; answer = answerOf (s .texts) (s .answer) }
 
-abbrev pub seenOf : Stepped → Lent → Seen
+abbrev pub seenOf : Stepped → Memories → Seen
 seenOf s memory = record { step = steppedOf s memory; used = s .reader .used; texts = s .texts }
 
 -- a call that takes nothing and leaves the handle
@@ -113,7 +113,7 @@ sessionIn (live s held) = s
 sessionIn (ended s held) = s
 sessionIn (refused s held e n) = s
 
-abbrev pub memoryIn : State (Session Table) → Lent
+abbrev pub memoryIn : State (Session Table) → Memories
 memoryIn st = sessionIn st .about .memory
 
 abbrev pub heldIn : State (Session Table) → List ℕ

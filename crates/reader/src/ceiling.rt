@@ -4,7 +4,7 @@ ghost use mathlib.Core.Path.{_≡_};
 ghost use mathlib.Core.Bool.{true};
 ghost use Prim.Native.Nat.{_+_, _*_, _≤_, _<_};
 ghost use Rattle.packet.specs.Ceiling.{runBy};
-ghost use Rattle.table.specs.Memory.{lent};
+ghost use Rattle.table.specs.Memory.{memories};
 ghost use Rattle.handle.specs.Handle.{placesIn};
 ghost use Rattle.reader.specs.View.{stateOf};
 ghost use Rattle.reader.specs.Calls.{stepIn};
@@ -35,8 +35,8 @@ pub fn up_to(
     index: &mut [u8],
     piece: &[u8],
 ) -> u64
-    requires { ⌜ (hostMayStep (now handle) (lent (now table) (now index)) ≡ true) × (ceiling ≤ mostPackets) ⌝ }
-    ensures { λ r. ⌜ left r (now (handle .exit)) (lent (now (table .exit)) (now (index .exit))) ≡ ranTo (seenRun (runBy stepIn ceiling (stateOf (readerIn (now (handle .entry))) (lent (now (table .entry)) (now (index .entry)))) (now (piece .entry)))) (placesIn (now (handle .entry))) ⌝ }
+    requires { ⌜ (hostMayStep (now handle) (memories (now table) (now index)) ≡ true) × (ceiling ≤ mostPackets) ⌝ }
+    ensures { λ r. ⌜ left r (now (handle .exit)) (memories (now (table .exit)) (now (index .exit))) ≡ ranTo (seenRun (runBy stepIn ceiling (stateOf (readerIn (now (handle .entry))) (memories (now (table .entry)) (now (index .entry)))) (now (piece .entry)))) (placesIn (now (handle .entry))) ⌝ }
 {
     let mut taken = 0;
     let mut finished = 0;

@@ -12,7 +12,7 @@ ghost use Rattle.message.specs.Test.{tested, quoteLength};
 ghost use Rattle.message.specs.declared.Message.{Message};
 ghost use Rattle.message.specs.declared.Texts.{Texts};
 ghost use Rattle.packet.specs.Session.{delivered};
-ghost use Rattle.table.specs.Memory.{lent};
+ghost use Rattle.table.specs.Memory.{memories};
 ghost use Rattle.table.specs.Index.{LentFitting};
 ghost use Rattle.table.specs.Board.{effect};
 ghost use Rattle.table.specs.Wire.{Placeable};
@@ -34,8 +34,8 @@ fn test(size: usize, letter: u8, body: &[u8]) -> u32
 
 // A message for the row of its id: 0, or the number of the refusal.
 fn place(rows: usize, handle: &mut [u8], table: &mut [u8], index: &mut [u8], body: &[u8]) -> u8
-    requires { ⌜ (isHandle (now handle) ≡ true) × ((rows ≡ headOf (now handle) .board .rows) × Placeable rows (now body) (lent (now table) (now index))) ⌝ }
-    ensures { λ r. ⌜ ((m : Message) (t : Texts) → readOf (now (body .entry)) ≡ accepted m t → left r (now (handle .exit)) (lent (now (table .exit)) (now (index .exit))) ≡ appliedAs (effect (headOf (now (handle .entry)) .board) m t (lent (now (table .entry)) (now (index .entry)))) (now (handle .entry))) ⌝ }
+    requires { ⌜ (isHandle (now handle) ≡ true) × ((rows ≡ headOf (now handle) .board .rows) × Placeable rows (now body) (memories (now table) (now index))) ⌝ }
+    ensures { λ r. ⌜ ((m : Message) (t : Texts) → readOf (now (body .entry)) ≡ accepted m t → left r (now (handle .exit)) (memories (now (table .exit)) (now (index .exit))) ≡ appliedAs (effect (headOf (now (handle .entry)) .board) m t (memories (now (table .entry)) (now (index .entry)))) (now (handle .entry))) ⌝ }
 {
     match table::wire::place(rows, body, table, index) {
         Placed::Kept => 0,
@@ -56,8 +56,8 @@ fn apply(
     index: &mut [u8],
     body: &[u8],
 ) -> u8
-    requires { ⌜ (isHandle (now handle) ≡ true) × ((rows ≡ headOf (now handle) .board .rows) × ((size ≡ quoteLength (getD (now body) 0 0)) × ((tested (readOf (now body)) ≡ 0) × LentFitting rows (lent (now table) (now index))))) ⌝ }
-    ensures { λ r. ⌜ ((m : Message) (t : Texts) → readOf (now (body .entry)) ≡ accepted m t → left r (now (handle .exit)) (lent (now (table .exit)) (now (index .exit))) ≡ appliedAs (effect (headOf (now (handle .entry)) .board) m t (lent (now (table .entry)) (now (index .entry)))) (now (handle .entry))) ⌝ }
+    requires { ⌜ (isHandle (now handle) ≡ true) × ((rows ≡ headOf (now handle) .board .rows) × ((size ≡ quoteLength (getD (now body) 0 0)) × ((tested (readOf (now body)) ≡ 0) × LentFitting rows (memories (now table) (now index))))) ⌝ }
+    ensures { λ r. ⌜ ((m : Message) (t : Texts) → readOf (now (body .entry)) ≡ accepted m t → left r (now (handle .exit)) (memories (now (table .exit)) (now (index .exit))) ≡ appliedAs (effect (headOf (now (handle .entry)) .board) m t (memories (now (table .entry)) (now (index .entry)))) (now (handle .entry))) ⌝ }
 {
     let letter = body[0];
     if size == 0 {
@@ -75,8 +75,8 @@ fn apply(
 
 // 0, or the number of the refusal.
 fn tried(rows: usize, handle: &mut [u8], table: &mut [u8], index: &mut [u8], body: &[u8]) -> u8
-    requires { ⌜ Going (now handle) (lent (now table) (now index)) × (rows ≡ headOf (now handle) .board .rows) ⌝ }
-    ensures { λ r. ⌜ left r (now (handle .exit)) (lent (now (table .exit)) (now (index .exit))) ≡ triedAs (deliver (tableOf (headOf (now (handle .entry)) .board) (lent (now (table .entry)) (now (index .entry)))) (now (body .entry))) (now (handle .entry)) ⌝ }
+    requires { ⌜ Going (now handle) (memories (now table) (now index)) × (rows ≡ headOf (now handle) .board .rows) ⌝ }
+    ensures { λ r. ⌜ left r (now (handle .exit)) (memories (now (table .exit)) (now (index .exit))) ≡ triedAs (deliver (tableOf (headOf (now (handle .entry)) .board) (memories (now (table .entry)) (now (index .entry)))) (now (body .entry))) (now (handle .entry)) ⌝ }
 {
     if body.len() == 0 {
         return 10;
@@ -99,8 +99,8 @@ pub fn message(
     index: &mut [u8],
     body: &[u8],
 ) -> u32
-    requires { ⌜ Ready (now handle) (lent (now table) (now index)) × ((rows ≡ headOf (now handle) .board .rows) × ((next ≡ headOf (now handle) .line .next) × (next < highestNumber))) ⌝ }
-    ensures { λ r. ⌜ left r (now (handle .exit)) (lent (now (table .exit)) (now (index .exit))) ≡ closedAs (delivered (headOf (now (handle .entry)) .line) (deliver (tableOf (headOf (now (handle .entry)) .board) (lent (now (table .entry)) (now (index .entry)))) (now (body .entry)))) (now (handle .entry)) ⌝ }
+    requires { ⌜ Ready (now handle) (memories (now table) (now index)) × ((rows ≡ headOf (now handle) .board .rows) × ((next ≡ headOf (now handle) .line .next) × (next < highestNumber))) ⌝ }
+    ensures { λ r. ⌜ left r (now (handle .exit)) (memories (now (table .exit)) (now (index .exit))) ≡ closedAs (delivered (headOf (now (handle .entry)) .line) (deliver (tableOf (headOf (now (handle .entry)) .board) (memories (now (table .entry)) (now (index .entry)))) (now (body .entry)))) (now (handle .entry)) ⌝ }
     ensures { λ r. ⌜ r < 65_536 ⌝ }
 {
     let r = tried(rows, handle, table, index, body);

@@ -14,7 +14,7 @@ ghost use mathlib.Core.Path.{_≡_};
 ghost use mathlib.Core.Bool.{true, cond};
 ghost use lib.ListN.{length};
 ghost use Rattle.record.specs.Places.{recordSize};
-ghost use Rattle.table.specs.Memory.{lent};
+ghost use Rattle.table.specs.Memory.{memories};
 ghost use Rattle.handle.specs.Handle.{handleSize, headOf, handleBytes};
 ghost use Rattle.reader.specs.View.{noText, readerWith, headPart, readyOf};
 ghost use Rattle.reader.specs.Calls.{Stepping, Starting};
@@ -139,8 +139,8 @@ pub fn no_text() -> Texts
 
 // Nothing is held: a whole packet is judged where it lies in the piece, which is handed on as a part of itself so that it goes in registers.
 fn straight(rows: usize, handle: &mut [u8], table: &mut [u8], index: &mut [u8], piece: &[u8]) -> u32
-    requires { ⌜ Ready (now handle) (lent (now table) (now index)) × (rows ≡ headOf (now handle) .board .rows) ⌝ }
-    ensures { λ r. ⌜ left r (now (handle .exit)) (lent (now (table .exit)) (now (index .exit))) ≡ goneOn (now (handle .entry)) (lent (now (table .entry)) (now (index .entry))) (now (piece .entry)) ⌝ }
+    requires { ⌜ Ready (now handle) (memories (now table) (now index)) × (rows ≡ headOf (now handle) .board .rows) ⌝ }
+    ensures { λ r. ⌜ left r (now (handle .exit)) (memories (now (table .exit)) (now (index .exit))) ≡ goneOn (now (handle .entry)) (memories (now (table .entry)) (now (index .entry))) (now (piece .entry)) ⌝ }
 {
     match packet::front(&piece[..]) {
         Framing::Short => {
@@ -184,9 +184,9 @@ fn mended(
     piece: &[u8],
     event: &mut [u8],
 ) -> u32
-    requires { ⌜ Holding (now handle) (lent (now table) (now index)) × ((rows ≡ headOf (now handle) .board .rows) × ((used ≡ headOf (now handle) .used) × (length (now event) ≡ recordSize))) ⌝ }
-    ensures { λ r. ⌜ left r (now (handle .exit)) (lent (now (table .exit)) (now (index .exit))) ≡ goneOn (now (handle .entry)) (lent (now (table .entry)) (now (index .entry))) (now (piece .entry)) ⌝ }
-    ensures { λ _. ⌜ now (event .exit) ≡ toldMemory (stepOn (now (handle .entry)) (lent (now (table .entry)) (now (index .entry))) (now (piece .entry)) .answer) (now (event .entry)) ⌝ }
+    requires { ⌜ Holding (now handle) (memories (now table) (now index)) × ((rows ≡ headOf (now handle) .board .rows) × ((used ≡ headOf (now handle) .used) × (length (now event) ≡ recordSize))) ⌝ }
+    ensures { λ r. ⌜ left r (now (handle .exit)) (memories (now (table .exit)) (now (index .exit))) ≡ goneOn (now (handle .entry)) (memories (now (table .entry)) (now (index .entry))) (now (piece .entry)) ⌝ }
+    ensures { λ _. ⌜ now (event .exit) ≡ toldMemory (stepOn (now (handle .entry)) (memories (now (table .entry)) (now (index .entry))) (now (piece .entry)) .answer) (now (event .entry)) ⌝ }
 {
     let n = packet::room(used, piece.len());
     let all = packet::joined(&handle[HEAD_SIZE..HANDLE_SIZE], used, piece, n);
@@ -232,8 +232,8 @@ fn moved(
     piece: &[u8],
     event: &mut [u8],
 ) -> u32
-    requires { ⌜ (hostMayStep (now handle) (lent (now table) (now index)) ≡ true) × ((length (now event) ≡ recordSize) × (rows ≡ headOf (now handle) .board .rows)) ⌝ }
-    ensures { λ r. ⌜ HostSteps (now (handle .entry)) (lent (now (table .entry)) (now (index .entry))) (now (piece .entry)) (now (event .entry)) r (now (handle .exit)) (lent (now (table .exit)) (now (index .exit))) (now (event .exit)) ⌝ }
+    requires { ⌜ (hostMayStep (now handle) (memories (now table) (now index)) ≡ true) × ((length (now event) ≡ recordSize) × (rows ≡ headOf (now handle) .board .rows)) ⌝ }
+    ensures { λ r. ⌜ HostSteps (now (handle .entry)) (memories (now (table .entry)) (now (index .entry))) (now (piece .entry)) (now (event .entry)) r (now (handle .exit)) (memories (now (table .exit)) (now (index .exit))) (now (event .exit)) ⌝ }
 {
     if !goes_on(handle) {
         return why_stopped(handle);
@@ -253,8 +253,8 @@ fn moved(
 
 // The same with nothing told. A packet that was cut, which only the first of a run can be, goes the way of a step and is told to memory of its own.
 fn turned(handle: &mut [u8], table: &mut [u8], index: &mut [u8], piece: &[u8]) -> u32
-    requires { ⌜ hostMayStep (now handle) (lent (now table) (now index)) ≡ true ⌝ }
-    ensures { λ r. ⌜ left r (now (handle .exit)) (lent (now (table .exit)) (now (index .exit))) ≡ turnedAs (movedBy (now (handle .entry)) (lent (now (table .entry)) (now (index .entry))) (now (piece .entry))) ⌝ }
+    requires { ⌜ hostMayStep (now handle) (memories (now table) (now index)) ≡ true ⌝ }
+    ensures { λ r. ⌜ left r (now (handle .exit)) (memories (now (table .exit)) (now (index .exit))) ≡ turnedAs (movedBy (now (handle .entry)) (memories (now (table .entry)) (now (index .entry))) (now (piece .entry))) ⌝ }
 {
     if !goes_on(handle) {
         return why_stopped(handle);
@@ -295,8 +295,8 @@ pub fn step(
     piece: &[u8],
     event: &mut [u8],
 ) -> u32
-    ensures { λ r. ⌜ HostSteps (now (handle .entry)) (lent (now (table .entry)) (now (index .entry))) (now (piece .entry)) (now (event .entry)) r (now (handle .exit)) (lent (now (table .exit)) (now (index .exit))) (now (event .exit)) ⌝ }
-    ensures { λ _. ⌜ GoesOn (now (handle .entry)) (lent (now (table .entry)) (now (index .entry))) (now (piece .entry)) (now (event .entry)) (now (handle .exit)) (lent (now (table .exit)) (now (index .exit))) ⌝ }
+    ensures { λ r. ⌜ HostSteps (now (handle .entry)) (memories (now (table .entry)) (now (index .entry))) (now (piece .entry)) (now (event .entry)) r (now (handle .exit)) (memories (now (table .exit)) (now (index .exit))) (now (event .exit)) ⌝ }
+    ensures { λ _. ⌜ GoesOn (now (handle .entry)) (memories (now (table .entry)) (now (index .entry))) (now (piece .entry)) (now (event .entry)) (now (handle .exit)) (memories (now (table .exit)) (now (index .exit))) ⌝ }
 {
     if !handle::is_handle(handle) {
         return told::UNFIT;
@@ -327,8 +327,8 @@ pub fn step(
 // Takes packets of the piece until so many are finished, on a handle where it lies, and tells none of them. The low byte of the answer is the refusal,
 // 0 for none, the second why it stopped, the two after that how many packets were finished, and the upper half the count of bytes taken.
 pub fn run(handle: &mut [u8], table: &mut [u8], index: &mut [u8], piece: &[u8], ceiling: u32) -> u64
-    ensures { λ r. ⌜ HostRuns (now (handle .entry)) (lent (now (table .entry)) (now (index .entry))) (now (piece .entry)) ceiling r (now (handle .exit)) (lent (now (table .exit)) (now (index .exit))) ⌝ }
-    ensures { λ _. ⌜ RunsOn (now (handle .entry)) (lent (now (table .entry)) (now (index .entry))) (now (piece .entry)) ceiling (now (handle .exit)) (lent (now (table .exit)) (now (index .exit))) ⌝ }
+    ensures { λ r. ⌜ HostRuns (now (handle .entry)) (memories (now (table .entry)) (now (index .entry))) (now (piece .entry)) ceiling r (now (handle .exit)) (memories (now (table .exit)) (now (index .exit))) ⌝ }
+    ensures { λ _. ⌜ RunsOn (now (handle .entry)) (memories (now (table .entry)) (now (index .entry))) (now (piece .entry)) ceiling (now (handle .exit)) (memories (now (table .exit)) (now (index .exit))) ⌝ }
 {
     if !within_limits(handle, table) {
         return told::UNFIT as u64;
@@ -401,7 +401,7 @@ impl Reader {
 
     // Fills the table and its index with zeros.
     pub fn start(table: &mut [u8], index: &mut [u8]) -> Started
-        ensures { λ s. ⌜ Starting (lent (now (table .entry)) (now (index .entry))) s (lent (now (table .exit)) (now (index .exit))) ⌝ }
+        ensures { λ s. ⌜ Starting (memories (now (table .entry)) (now (index .entry))) s (memories (now (table .exit)) (now (index .exit))) ⌝ }
     {
         let applied = table::start(table, index);
         let board = applied.board;
@@ -442,7 +442,7 @@ impl Reader {
 
     // Takes at most one packet of the piece: the step on bytes of its own, with event memory of its own.
     pub fn step(self, piece: &[u8], table: &mut [u8], index: &mut [u8]) -> Stepped
-        ensures { λ s. ⌜ Stepping self (lent (now (table .entry)) (now (index .entry))) (now (piece .entry)) s (lent (now (table .exit)) (now (index .exit))) ⌝ }
+        ensures { λ s. ⌜ Stepping self (memories (now (table .entry)) (now (index .entry))) (now (piece .entry)) s (memories (now (table .exit)) (now (index .exit))) ⌝ }
     {
         let mut handle = self.laid();
         let mut event = [0u8; RECORD_SIZE];
@@ -460,7 +460,7 @@ impl Reader {
 
     // Takes packets of the piece until so many are finished, and tells none: the run on bytes of its own.
     pub fn run(self, piece: &[u8], table: &mut [u8], index: &mut [u8], ceiling: u32) -> Ran
-        ensures { λ x. ⌜ Running self (lent (now (table .entry)) (now (index .entry))) (now (piece .entry)) ceiling x (lent (now (table .exit)) (now (index .exit))) ⌝ }
+        ensures { λ x. ⌜ Running self (memories (now (table .entry)) (now (index .entry))) (now (piece .entry)) ceiling x (memories (now (table .exit)) (now (index .exit))) ⌝ }
     {
         let mut handle = self.laid();
         let number = run(&mut handle, table, index, piece, ceiling);
@@ -501,7 +501,7 @@ impl Reader {
 
     // The reader and the table that an image holds, and the index of its rows.
     pub fn restore(saved: &[u8], table: &mut [u8], index: &mut [u8]) -> Restored
-        ensures { λ r. ⌜ Restores (now (saved .entry)) (lent (now (table .entry)) (now (index .entry))) r (lent (now (table .exit)) (now (index .exit))) ⌝ }
+        ensures { λ r. ⌜ Restores (now (saved .entry)) (memories (now (table .entry)) (now (index .entry))) r (memories (now (table .exit)) (now (index .exit))) ⌝ }
     {
         if !index::is_index(index) {
             return Restored {

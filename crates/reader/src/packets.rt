@@ -11,7 +11,7 @@ ghost use lib.ListN.{length};
 ghost use Rattle.field.specs.Bytes.{overlay};
 ghost use Rattle.packet.specs.Line.{sessionSize, loginSession, loggedIn, packetOf, isMessage};
 ghost use Rattle.packet.specs.Session.{soupBinTCP};
-ghost use Rattle.table.specs.Memory.{Lent, lent};
+ghost use Rattle.table.specs.Memory.{Memories, memories};
 ghost use Rattle.handle.specs.Handle.{handleSize, headOf, headBytes, withLine};
 ghost use Rattle.reader.specs.Deliver.{deliver};
 ghost use Rattle.reader.specs.Handles.{left};
@@ -40,8 +40,8 @@ fn log_in(handle: &mut [u8], body: &[u8])
 
 // A packet that is no message for the next number.
 fn other(handle: &mut [u8], letter: u8, body: &[u8]) -> u32
-    requires { ⌜ ((t : Lent) × Ready (now handle) t) × (isMessage (packetOf (headOf (now handle) .line) letter (now body)) ≡ false) ⌝ }
-    ensures { λ r. ⌜ ((t : Lent) → left r (now (handle .exit)) t ≡ closedAs (soupBinTCP deliver (sessionAt (now (handle .entry)) t) letter (now (body .entry))) (now (handle .entry))) ⌝ }
+    requires { ⌜ ((t : Memories) × Ready (now handle) t) × (isMessage (packetOf (headOf (now handle) .line) letter (now body)) ≡ false) ⌝ }
+    ensures { λ r. ⌜ ((t : Memories) → left r (now (handle .exit)) t ≡ closedAs (soupBinTCP deliver (sessionAt (now (handle .entry)) t) letter (now (body .entry))) (now (handle .entry))) ⌝ }
     ensures { λ r. ⌜ r < 65_536 ⌝ }
 {
     let head = handle::read_head(handle);
@@ -75,8 +75,8 @@ pub fn act(
     letter: u8,
     body: &[u8],
 ) -> u32
-    requires { ⌜ Ready (now handle) (lent (now table) (now index)) × (rows ≡ headOf (now handle) .board .rows) ⌝ }
-    ensures { λ r. ⌜ left r (now (handle .exit)) (lent (now (table .exit)) (now (index .exit))) ≡ closedAs (soupBinTCP deliver (sessionAt (now (handle .entry)) (lent (now (table .entry)) (now (index .entry)))) letter (now (body .entry))) (now (handle .entry)) ⌝ }
+    requires { ⌜ Ready (now handle) (memories (now table) (now index)) × (rows ≡ headOf (now handle) .board .rows) ⌝ }
+    ensures { λ r. ⌜ left r (now (handle .exit)) (memories (now (table .exit)) (now (index .exit))) ≡ closedAs (soupBinTCP deliver (sessionAt (now (handle .entry)) (memories (now (table .entry)) (now (index .entry)))) letter (now (body .entry))) (now (handle .entry)) ⌝ }
     ensures { λ r. ⌜ r < 65_536 ⌝ }
 {
     let next = handle::next(handle);

@@ -10,7 +10,7 @@ use Rattle.message.specs.Message.{readOf}
 use Rattle.message.specs.Test.{tested}
 use Rattle.row.specs.Fields.{rowSize}
 use Rattle.row.specs.Wire.{actionIn, directoryIn, textsIn, quoteIn}
-use Rattle.table.specs.Memory.{Lent, row, withRow, Found, At, Nothing}
+use Rattle.table.specs.Memory.{Memories, row, withRow, Found, At, Nothing}
 use Rattle.table.specs.Index.{LentFitting, entered}
 use Rattle.table.specs.Board.{Outcome, accepted, refused, oneMore, directoryAt, actionAt, quoteAt}
 use Rattle.table.specs.declared.Board.{Board}
@@ -36,7 +36,7 @@ pub record Rowed (bs : List ℕ) : Type 0 where
   pub noEnd : getD bs 0 0 ≡ 77 → ⊥
 
 -- and memories that have the rows in use
-pub record Placeable (rows : ℕ) (bs : List ℕ) (l : Lent) : Type 0 where
+pub record Placeable (rows : ℕ) (bs : List ℕ) (l : Memories) : Type 0 where
   pub passed : tested (readOf bs) ≡ 0
   pub noEvent : getD bs 0 0 ≡ 83 → ⊥
   pub noEnd : getD bs 0 0 ≡ 77 → ⊥

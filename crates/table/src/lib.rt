@@ -1,6 +1,6 @@
 // The table of instruments and the index of its rows, in memory that the caller lends at each call: their start.
 ghost use mathlib.Core.Path.{_≡_};
-ghost use Rattle.table.specs.Memory.{isTable, rowsFit, lent};
+ghost use Rattle.table.specs.Memory.{isTable, rowsFit, memories};
 ghost use Rattle.table.specs.Index.{isLent};
 ghost use Rattle.table.specs.Board.{refusalNumber, freshBoard, taken, denied, outcome, beside, startOf};
 
@@ -93,7 +93,7 @@ pub fn is_table(table: &[u8]) -> bool
 
 // Is that of the table, and of its index?
 fn is_lent(table: &[u8], index: &[u8]) -> bool
-    ensures { λ r. ⌜ r ≡ isLent (lent (now (table .entry)) (now (index .entry))) ⌝ }
+    ensures { λ r. ⌜ r ≡ isLent (memories (now (table .entry)) (now (index .entry))) ⌝ }
 {
     is_table(table) & index::is_index(index)
 }
@@ -107,7 +107,7 @@ pub fn rows_fit(rows: usize, table: &[u8]) -> bool
 
 // Both memories filled with zeros, and a board with nothing on it.
 pub fn start(table: &mut [u8], index: &mut [u8]) -> Applied
-    ensures { λ r. ⌜ beside (now (index .exit)) (outcome r (now (table .exit))) ≡ startOf (lent (now (table .entry)) (now (index .entry))) ⌝ }
+    ensures { λ r. ⌜ beside (now (index .exit)) (outcome r (now (table .exit))) ≡ startOf (memories (now (table .entry)) (now (index .entry))) ⌝ }
 {
     if !is_lent(table, index) {
         return refuse(Refusal::Unfit, fresh_board());

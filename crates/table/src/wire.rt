@@ -11,7 +11,7 @@ ghost use Rattle.message.specs.declared.Message.{Message};
 ghost use Rattle.message.specs.declared.Texts.{Texts};
 ghost use Rattle.row.specs.Fields.{rowSize};
 ghost use Rattle.row.specs.Wire.{directoryIn, textsIn, quoteIn};
-ghost use Rattle.table.specs.Memory.{lent};
+ghost use Rattle.table.specs.Memory.{memories};
 ghost use Rattle.table.specs.Index.{LentFitting};
 ghost use Rattle.table.specs.Board.{beside, directoryAt, quoteAt, effect};
 ghost use Rattle.table.specs.Wire.{placed, indexBy, Rowed, Placeable, effectIn, AtRow, AtNone};
@@ -26,7 +26,7 @@ pub enum Placed {
 
 // A message for an id that has no row yet: only a directory adds one, which takes its place in the index.
 fn add(rows: usize, place: usize, bytes: &[u8], table: &mut [u8], index: &mut [u8]) -> Placed
-    requires { ⌜ Rowed (now bytes) × (LentFitting rows (lent (now table) (now index)) × (place ≤ rows)) ⌝ }
+    requires { ⌜ Rowed (now bytes) × (LentFitting rows (memories (now table) (now index)) × (place ≤ rows)) ⌝ }
     ensures { λ r. ⌜ AtNone (effectIn (now (bytes .entry))) rows (now (table .entry)) (now (table .exit)) r ⌝ }
     ensures { λ r. ⌜ now (index .exit) ≡ indexBy r rows place (now (index .entry)) ⌝ }
 {
@@ -83,8 +83,8 @@ fn at_row(row: &mut [u8], bytes: &[u8]) -> Placed
 
 // A message for the row of its id: accepted, with all that it changes, or refused, with nothing changed.
 pub fn place(rows: usize, bytes: &[u8], table: &mut [u8], index: &mut [u8]) -> Placed
-    requires { ⌜ Placeable rows (now bytes) (lent (now table) (now index)) ⌝ }
-    ensures { λ r. ⌜ ((b : Board) (m : Message) (t : Texts) → b .rows ≡ rows → readOf (now (bytes .entry)) ≡ accepted m t → beside (now (index .exit)) (placed r b (now (table .exit))) ≡ effect b m t (lent (now (table .entry)) (now (index .entry)))) ⌝ }
+    requires { ⌜ Placeable rows (now bytes) (memories (now table) (now index)) ⌝ }
+    ensures { λ r. ⌜ ((b : Board) (m : Message) (t : Texts) → b .rows ≡ rows → readOf (now (bytes .entry)) ≡ accepted m t → beside (now (index .exit)) (placed r b (now (table .exit))) ≡ effect b m t (memories (now (table .entry)) (now (index .entry)))) ⌝ }
 {
     match index::find(index, table, rows, field::read4(bytes, 11)) {
         Sought::Here(k) => {
