@@ -10,5 +10,4 @@ pub mod Back
 pub mod Again
 pub mod Rounds
 pub mod Verdicts
-pub mod Made
 pub mod Fresh

@@ -1,8 +1,7 @@
 pub mod Search
+pub mod IndexHalves
+pub mod IndexWays
+pub mod IndexPlaces
 pub mod Ways
 pub mod Wired
 pub mod Rows
-pub mod Quotes
-pub mod Kept
-pub mod Exactly
-pub mod Answers

@@ -1,12 +1,12 @@
 -- What bytes say to the table is what the message that they are read as does to it; and each way through the code says it.
 -- Assumes nothing.
-use mathlib.Core.Path.{_≡_, refl, sym, ap, _∙_}
+use mathlib.Core.Path.{_≡_, refl, sym, ap, subst, _∙_}
 use mathlib.Core.Bool.{Bool, true, false, cond, not}
 use mathlib.Core.List.{List, [], _∷_}
 use Prim.Native.Nat.{ℕ, _+_, _-_, _*_, _≤_, _<_}
 use native.Mathlib.Decide.{ℕ-discrete}
 use native.Mathlib.Omega.{arith}
-use borrow.Author.Tests.{ne-eqb, le-leb, lt-leb, not-true, not-false}
+use borrow.Author.Tests.{ne-eqb, le-leb, lt-leb, lt-ltb, le-ltb, not-true, not-false}
 use lib.ListN.{length, getD}
 use Rattle.field.specs.Bytes.{part, be}
 use Rattle.field.proofs.Parts.{overlay-own}
@@ -29,18 +29,19 @@ use Rattle.message.proofs.Tested.{quotes, rare-last}
 use Rattle.row.specs.Fields.{rowSize, takesQuote}
 use Rattle.row.specs.Changes.{changed, newRow, unchanged, directoryChanges, actionChanges, quoteChanges}
 use Rattle.row.specs.Wire.{sidesIn, actionIn, instrumentIn, directoryIn, textsIn, quoteIn}
-use Rattle.table.specs.Memory.{mostRows, tableSize, row, withRow, rowFor}
+use Rattle.table.specs.Memory.{mostRows, tableSize, Memories, memories, row, withRow, Found, At, Nothing}
+use Rattle.table.specs.Index.{sought}
 use Rattle.table.specs.Board as board
-use Rattle.table.specs.Board.{Outcome, withEvent, withLive, lookFor, effectAt, effect, directoryAt, actionAt, quoteAt}
-use Rattle.table.specs.Wire.{placed, Rowed, Placeable, effectIn, AtRow, AtNone}
-use Rattle.table.specs.declared.Found.{Found}
-use Rattle.table.specs.declared.Found.the-variants.{At, Nothing}
+use Rattle.table.specs.Board.{Outcome, Indexed, beside, withEvent, withLive, Wanted, anId, wantedBy, lookFor, look, effectAt, entering, effectBy, effect, directoryAt, actionAt, quoteAt}
+use Rattle.table.specs.Wire.{placed, indexBy, Rowed, Placeable, effectIn, AtRow, AtNone}
+use Rattle.table.specs.declared.index.Sought.{Sought}
+use Rattle.table.specs.declared.index.Sought.the-variants.{Here, Absent, Astray}
 use Rattle.table.specs.declared.Board.{Board}
 use Rattle.table.specs.declared.Refusal.{Refusal}
-use Rattle.table.specs.declared.Refusal.the-variants.{NoRow, NoQuotes, FixedField, TableFull}
+use Rattle.table.specs.declared.Refusal.the-variants.{Unfit, NoRow, NoQuotes, FixedField, TableFull}
 use Rattle.table.specs.declared.wire.Placed.{Placed}
 use Rattle.table.specs.declared.wire.Placed.the-variants as placing
-use Rattle.table.proofs.Ways.{lent, back, row-lent, row-back}
+use Rattle.table.proofs.Ways.{lentRow, back, row-lent, row-back}
 
 infixr 5 _also_
 abbrev _also_ : {A B : Type 0} → A → B → A × B
@@ -86,7 +87,7 @@ module _ (bs : List ℕ) (p : Rowed bs) where
       by (no n) (yes e) = omega (arith, directory-room e)
       by (no n) (no d) = let q = quote-room n d in omega (arith, q .1, quotes bs (getD bs 0 0) (q .0) .head)
 
-pub rowed : {rows : ℕ} {bs mem : List ℕ} → Placeable rows bs mem → Rowed bs
+pub rowed : {rows : ℕ} {bs : List ℕ} {l : Memories} → Placeable rows bs l → Rowed bs
 rowed p = record { passed = p .passed; noEvent = p .noEvent; noEnd = p .noEnd }
 
 -- ---- what they are read as
@@ -102,39 +103,44 @@ read-made (long c bs h l) m t e = clash (ap (λ (r : Reading). r .answer) e)
 read-made (field c bs s k) m t e = clash (ap (λ (r : Reading). r .answer) e)
 read-made (whole c bs s k) m t e = e
 
+-- what bytes that look for a row say of the message that they are
+pub record Says (bs : List ℕ) (m : Message) (t : Texts) : Type 0 where
+  pub wants : wantedBy m ≡ anId (be (part bs 11 4))
+  pub does : (b : Board) (mem : List ℕ) (w : Found) → effectAt b m t mem w ≡ effectIn bs b mem w
+
 -- letter by letter
-made-effect : (bs : List ℕ) (b : Board) (mem : List ℕ) → (getD bs 0 0 ≡ 83 → ⊥) → (getD bs 0 0 ≡ 77 → ⊥) → (letterIn letters (getD bs 0 0) .size ≡ 0 → ⊥)
-    → effect b (made bs .0) (made bs .1) mem ≡ effectIn bs b mem (rowFor (b .rows) mem (be (part bs 11 4)))
-unfolding letters values effect effectAt lookFor effectIn sidesIn
-made-effect bs b mem noEvent noEnd =
+made-says : (bs : List ℕ) → (getD bs 0 0 ≡ 83 → ⊥) → (getD bs 0 0 ≡ 77 → ⊥) → (letterIn letters (getD bs 0 0) .size ≡ 0 → ⊥)
+    → Says bs (made bs .0) (made bs .1)
+unfolding letters values effectAt effectIn sidesIn
+made-says bs noEvent noEnd =
     found unlisted
-    (λ (l : Letter Content). (l .size ≡ 0 → ⊥)
-    → effect b (l .makes (values (l .rows) bs) .0) (l .makes (values (l .rows) bs) .1) mem ≡ effectIn bs b mem (rowFor (b .rows) mem (be (part bs 11 4))))
+    (λ (l : Letter Content). (l .size ≡ 0 → ⊥) → Says bs (l .makes (values (l .rows) bs) .0) (l .makes (values (l .rows) bs) .1))
     (getD bs 0 0) letters (λ h. absurd (h refl))
     ((λ e h. absurd (noEvent (sym e)))
-    also (λ e h. rw (← e))
-    also (λ e h. rw (← e))
-    also (λ e h. rw (← e))
-    also (λ e h. rw (← e))
-    also (λ e h. rw (← e))
-    also (λ e h. rw (← e))
-    also (λ e h. rw (← e))
-    also (λ e h. rw (← e))
+    also (λ e h. record { wants = refl; does = λ b mem w. rw (← e) })
+    also (λ e h. record { wants = refl; does = λ b mem w. rw (← e) })
+    also (λ e h. record { wants = refl; does = λ b mem w. rw (← e) })
+    also (λ e h. record { wants = refl; does = λ b mem w. rw (← e) })
+    also (λ e h. record { wants = refl; does = λ b mem w. rw (← e) })
+    also (λ e h. record { wants = refl; does = λ b mem w. rw (← e) })
+    also (λ e h. record { wants = refl; does = λ b mem w. rw (← e) })
+    also (λ e h. record { wants = refl; does = λ b mem w. rw (← e) })
     also (λ e h. absurd (noEnd (sym e)))
     also tt)
 
-told-effect : (x : Content) (b : Board) (m : Message) (t : Texts) (mem : List ℕ) → told x ≡ message.accepted m t → effect b (x .0) (x .1) mem ≡ effect b m t mem
-told-effect x b m t mem e =
-    let i : Is (x .0) ≡ Is m = ap (λ (r : Reading). r .answer) e in
-    let j : x .0 ≡ m = cc in
-    let k : x .1 ≡ t = ap (λ (r : Reading). r .texts) e in
-    rw (j, k)
+-- of a message that bytes are read as, what holds of the one that is made of them
+module _ (bs : List ℕ) (m : Message) (t : Texts) (e : readOf bs ≡ message.accepted m t) where
+  as-made : (P : Message → Texts → Type 0) → P (made bs .0) (made bs .1) → P m t
+  as-made P p =
+      let a : told (made bs) ≡ message.accepted m t = read-made (read-verdict bs) m t e in
+      let i : Is (made bs .0) ≡ Is m = ap (λ (r : Reading). r .answer) a in
+      let j : made bs .0 ≡ m = cc in
+      let k : made bs .1 ≡ t = ap (λ (r : Reading). r .texts) a in
+      subst (λ (x : Message). P x t) j (subst (P (made bs .0)) k p)
 
--- THEOREM: the effect of an accepted message is what its bytes say, at the row for the id in them
-pub effect-wired : (bs : List ℕ) (b : Board) (m : Message) (t : Texts) (mem : List ℕ) → Rowed bs → readOf bs ≡ message.accepted m t
-    → effect b m t mem ≡ effectIn bs b mem (rowFor (b .rows) mem (be (part bs 11 4)))
-effect-wired bs b m t mem p e =
-    sym (told-effect (made bs) b m t mem (read-made (read-verdict bs) m t e)) ∙ made-effect bs b mem (p .noEvent) (p .noEnd) (sized bs p .isListed)
+  -- THEOREM: an accepted message looks for the row of the id in its bytes, and does there what they say
+  pub effect-wired : Rowed bs → Says bs m t
+  effect-wired p = as-made (Says bs) (made-says bs (p .noEvent) (p .noEnd) (sized bs p .isListed))
 
 -- ---- a row lent by itself
 
@@ -229,22 +235,44 @@ module _ (bs mem : List ℕ) {rows : ℕ} where
     add-put {r} s h f l =
         record { told = λ b q. rw (row-back rows mem r (omega arith) l) (sym (by-directory bs b mem Nothing e ∙ rw (q, lt-leb mostRows rows h, f))) }
 
--- ---- the row for the id
+-- ---- by what the search answers
 
-module _ (bs mem : List ℕ) (p : Rowed bs) {rows id : ℕ} {w : Found} (i : id ≡ be (part bs 11 4)) (f : w ≡ rowFor rows mem id) where
-  at-found : (w′ : Found) → w ≡ w′ → (b : Board) (m : Message) (t : Texts) → b .rows ≡ rows → readOf bs ≡ message.accepted m t
-      → effect b m t mem ≡ effectIn bs b mem w′
-  at-found w′ e b m t q a = effect-wired bs b m t mem p a ∙ rw (q, ← i, ← f, e)
+-- the index that a placed message leaves is the one that the definition enters its row in
+entering-placed : (x : Placed) (b : Board) (p : ℕ) (ix mem : List ℕ) → entering ix b p (placed x b mem) ≡ indexBy x (b .rows) p ix
+entering-placed placing.Kept b p ix mem = rw (le-ltb (b .rows) (b .rows) (omega arith))
+entering-placed placing.Added b p ix mem = rw (lt-ltb (b .rows) (b .rows + 1) (omega arith))
+entering-placed (placing.Refused r) b p ix mem = rw (le-ltb (b .rows) (b .rows) (omega arith))
 
-  pub place-found : {k : ℕ} {r : List ℕ} {x : Placed} → w ≡ At k → k * rowSize + rowSize ≤ length mem → AtRow (effectIn bs) (lent k mem) r x
+module _ (bs mem ix : List ℕ) (p : Rowed bs) {rows id : ℕ} {w : Sought} (i : id ≡ be (part bs 11 4)) (f : w ≡ sought ix mem rows id) where
+  at-found : (s : Sought) → w ≡ s → (b : Board) (m : Message) (t : Texts) → b .rows ≡ rows → readOf bs ≡ message.accepted m t
+      → effect b m t (memories mem ix) ≡ effectBy b m t (memories mem ix) s
+  unfolding effect lookFor
+  at-found s e b m t q a = rw (effect-wired bs m t a p .wants, q, ← i, ← f, e)
+
+  pub place-found : {k : ℕ} {r : List ℕ} {x : Placed} → w ≡ Here k → k * rowSize + rowSize ≤ length mem → AtRow (effectIn bs) (lentRow k mem) r x
       → length r ≡ k * rowSize + rowSize - k * rowSize → (b : Board) (m : Message) (t : Texts) → b .rows ≡ rows → readOf bs ≡ message.accepted m t
-      → placed x b (back k mem r) ≡ effect b m t mem
+      → beside ix (placed x b (back k mem r)) ≡ effect b m t (memories mem ix)
+  unfolding effectBy
   place-found {k} {r} {x} e h g l b m t q a =
-      ap (placed x b) (row-back k mem r h l) ∙ g .told b k mem h (sym (row-lent k mem)) ∙ sym (at-found (At k) e b m t q a)
+      ap (beside ix)
+      (ap (placed x b) (row-back k mem r h l) ∙ g .told b k mem h (sym (row-lent k mem)) ∙ sym (effect-wired bs m t a p .does b mem (At k)))
+      ∙ sym (at-found (Here k) e b m t q a)
 
-  pub place-none : {zs : List ℕ} {x : Placed} → w ≡ Nothing → AtNone (effectIn bs) rows mem zs x
-      → (b : Board) (m : Message) (t : Texts) → b .rows ≡ rows → readOf bs ≡ message.accepted m t → placed x b zs ≡ effect b m t mem
-  place-none e g b m t q a = g .told b q ∙ sym (at-found Nothing e b m t q a)
+  pub place-none : {place : ℕ} {zs jx : List ℕ} {x : Placed} → w ≡ Absent place → AtNone (effectIn bs) rows mem zs x → jx ≡ indexBy x rows place ix
+      → (b : Board) (m : Message) (t : Texts) → b .rows ≡ rows → readOf bs ≡ message.accepted m t
+      → beside jx (placed x b zs) ≡ effect b m t (memories mem ix)
+  unfolding effectBy
+  place-none {place} {zs} {jx} {x} e g j b m t q a =
+      let o : placed x b zs ≡ effectAt b m t mem Nothing = g .told b q ∙ sym (effect-wired bs m t a p .does b mem Nothing) in
+      let y : jx ≡ entering ix b place (placed x b zs) = j ∙ ap (λ (n : ℕ). indexBy x n place ix) (sym q) ∙ sym (entering-placed x b place ix zs) in
+      ap (λ (v : List ℕ). beside v (placed x b zs)) y
+      ∙ ap (λ (v : Outcome). beside (entering ix b place v) v) o
+      ∙ sym (at-found (Absent place) e b m t q a)
+
+  pub place-astray : w ≡ Astray → (b : Board) (m : Message) (t : Texts) → b .rows ≡ rows → readOf bs ≡ message.accepted m t
+      → beside ix (placed (placing.Refused Unfit) b mem) ≡ effect b m t (memories mem ix)
+  unfolding effectBy
+  place-astray e b m t q a = sym (at-found Astray e b m t q a)
 
 -- ---- S and M, which look for no row
 
@@ -260,17 +288,23 @@ module _ (bs : List ℕ) (passed : tested (readOf bs) ≡ 0) where
   unfolding letters letterAmong
   end-room e = room 77 (getD bs 0 0) bs e listed-sized
 
-module _ (bs : List ℕ) (b : Board) (m : Message) (t : Texts) (mem : List ℕ) (e : readOf bs ≡ message.accepted m t) where
-  as-made : effect b m t mem ≡ effect b (made bs .0) (made bs .1) mem
-  as-made = sym (told-effect (made bs) b m t mem (read-made (read-verdict bs) m t e))
+module _ (bs : List ℕ) (b : Board) (m : Message) (t : Texts) (l : Memories) (e : readOf bs ≡ message.accepted m t) where
+  -- what the letter c does to a table
+  abbrev effectOf : ℕ → Indexed
+  effectOf c = let x = letterIn letters c .makes (values (letterIn letters c .rows) bs) in effect b (x .0) (x .1) l
 
-  abbrev effectBy : ℕ → Outcome
-  effectBy c = let x = letterIn letters c .makes (values (letterIn letters c .rows) bs) in effect b (x .0) (x .1) mem
+  by-letter : (c : ℕ) → getD bs 0 0 ≡ c → effect b m t l ≡ effectOf c
+  by-letter c k = as-made bs m t e (λ (x : Message) (y : Texts). effect b x y l ≡ effectOf c) (ap effectOf k)
 
-  pub event-wired : getD bs 0 0 ≡ 83 → effect b m t mem ≡ board.accepted (withEvent (be (part bs 11 1)) b) mem
-  unfolding letters letterAmong values effect effectAt lookFor
-  event-wired k = as-made ∙ ap effectBy k
+  -- nothing enters the index
+  same-rows : {o : Outcome} → o .applied .board .rows ≡ b .rows → beside (entering (l .index) b 0 o) o ≡ beside (l .index) o
+  same-rows {o} q = rw (q, le-ltb (b .rows) (b .rows) (omega arith))
 
-  pub end-wired : getD bs 0 0 ≡ 77 → effect b m t mem ≡ board.accepted (withLive (endOfReplayOf (values endOfReplayRows bs) .number) b) mem
-  unfolding letters letterAmong values effect effectAt lookFor
-  end-wired k = as-made ∙ ap effectBy k
+  pub event-wired : getD bs 0 0 ≡ 83 → effect b m t l ≡ beside (l .index) (board.accepted (withEvent (be (part bs 11 1)) b) (l .table))
+  unfolding letters letterAmong values effect effectBy effectAt lookFor
+  event-wired k = by-letter 83 k ∙ same-rows refl
+
+  pub end-wired : getD bs 0 0 ≡ 77
+      → effect b m t l ≡ beside (l .index) (board.accepted (withLive (endOfReplayOf (values endOfReplayRows bs) .number) b) (l .table))
+  unfolding letters letterAmong values effect effectBy effectAt lookFor
+  end-wired k = by-letter 77 k ∙ same-rows refl
