@@ -389,7 +389,7 @@ module _ {S E : Type 0} (judge : S → ℕ → List ℕ → Verdict S E) where
 
   -- ---- A RUN STOPS FOR MORE, OR FOR WHAT ITS READER SAYS: that it has ended or refused, or else the ceiling
 
-  abbrev Says : Stepped S E → Type 0
+  abbrev pub Says : Stepped S E → Type 0
   Says q = (w : Why) → Halts (q .answer) w → (whyAtCeiling (q .state) ≡ w) ⊎ (w ≡ ceiling.More)
 
   judged-says : (n : ℕ) (v : Verdict S E) → Says (stepJudged n v)
@@ -402,7 +402,7 @@ module _ {S E : Type 0} (judge : S → ℕ → List ℕ → Verdict S E) where
   framed-says s held piece (badLength r) w h = inl (sym h)
   framed-says s held piece (packet l b r) w h = judged-says (length piece - length r) (judge s l b) w h
 
-  step-says : (st : State S) (piece : List ℕ) → Says (stepOf judge st piece)
+  pub step-says : (st : State S) (piece : List ℕ) → Says (stepOf judge st piece)
   unfolding stepOf
   step-says (live s held) piece w h = framed-says s held piece (frame (held ++ piece)) w h
   step-says (ended s held) piece w h = inl (sym h)

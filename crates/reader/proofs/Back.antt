@@ -31,18 +31,18 @@ use Rattle.handle.proofs.Laid.{laid-handle}
 use Rattle.table.specs.Memory.{Memories}
 use Rattle.reader.specs.Refusals.{refusalNumber, named}
 use Rattle.reader.specs.Deliver.{Table, Said, said, deliver}
-use Rattle.reader.specs.View.{Seen, seen, sessionOf, readerWith, headPart, heldOf, stateOf, memoryIn, heldIn, answerOf, answerTexts}
-use Rattle.reader.specs.Limits.{withinLimits}
-use Rattle.reader.specs.Calls.{stepAll, unfit, Stepping, placesBy, placesAfter}
+use Rattle.reader.specs.View.{Seen, seen, noText, sessionOf, readerWith, headPart, heldOf, stateOf, memoryIn, heldIn, answerOf, answerTexts}
+use Rattle.reader.specs.Limits.{mayStep}
+use Rattle.reader.specs.Calls.{isUnfit, unmoved, stepIn, stepAll, unfit, Stepping, placesBy, placesAfter}
 use Rattle.reader.specs.Handles.{readerIn, headIn, loginBytes, eventNumber, toldNumber, eventMemory, toldMemory, takenIn, kindIn, messageIn, answerFor, answerIn, goneTo, movedBy, Stepped, hostStepped, steppedAs, stepHost, HostSteps, GoesOn}
 use Rattle.reader.specs.Shapes.{Read, readBack, beside}
 use Rattle.reader.specs.declared.told.Heard.{Heard}
 use Rattle.reader.specs.declared.Reader.{Reader}
 use Rattle.reader.specs.declared.Refusal.the-variants.{Unfit}
 use Rattle.reader.proofs.Ways.{some-number}
-use Rattle.reader.proofs.Kept.{Within, within, named-number}
+use Rattle.reader.proofs.Kept.{Within, may-within, named-number}
 use Rattle.reader.proofs.Views.{head-in, held-in, reader-back}
-use Rattle.reader.proofs.Fits.{numbered-named, numbered-low, EventFits, SessionFits, AnswerFits, StateFits, step-fits}
+use Rattle.reader.proofs.Fits.{numbered-named, numbered-low, EventFits, SessionFits, AnswerFits, StateFits, StepFits, step-fits}
 
 -- ---- AN ANSWER IS READ BACK
 
@@ -243,7 +243,7 @@ module _ (handle : List ℕ) (table : Memories) (piece : List ℕ) (o : Own hand
         holds = sym (held-in r table);
       }
 
-  module _ (p : Bytes piece) (w : Within r table) where
+  module _ (p : Bytes piece) (w : Within r (table .table)) where
     own-session : SessionFits (sessionOf (r .line) (r .board) table)
     unfolding fits
     own-session =
@@ -251,7 +251,7 @@ module _ (handle : List ℕ) (table : Memories) (piece : List ℕ) (o : Own hand
           ten = o .head .session;
           some = w .some;
           most = w .most;
-          board = record { rows = rows-fitting (r .board .rows) table (w .fitted) .1; live = o .head .live; event = o .head .event };
+          board = record { rows = rows-fitting (r .board .rows) (table .table) (w .fitted) .1; live = o .head .live; event = o .head .event };
         }
 
     pub own-fits : StateFits st
@@ -262,30 +262,47 @@ module _ (handle : List ℕ) (table : Memories) (piece : List ℕ) (o : Own hand
     own-used : length (heldIn st) ≡ r .used
     own-used = ap length (held-in r table) ∙ length-take-le (r .used) places (omega (arith, places-long, w .start))
 
-    pub goes-fits-state : StateFits (stepOf (soupBinTCP deliver) st piece .state)
-    goes-fits-state = step-fits st piece (rw (held-in r table) (o .bytes)) p own-fits .state
+    step-has : StepFits (stepOf (soupBinTCP deliver) st piece)
+    step-has = step-fits st piece (rw (held-in r table) (o .bytes)) p own-fits
 
-    goes-fits : (let x = seen (stepOf (soupBinTCP deliver) st piece) in Fitting x (placesAfter places (r .used) piece x))
-    goes-fits =
+    pub goes-fits-state : StateFits (stepIn st piece .state)
+    unfolding stepIn
+    goes-fits-state =
         let x = stepOf (soupBinTCP deliver) st piece in
-        let f = step-fits st piece (rw (held-in r table) (o .bytes)) p own-fits in
+        both (λ (y : stream.Stepped (Session Table) (Event Said)). StateFits (y .state)) (isUnfit (x .answer)) (λ _. own-fits) (λ _. step-has .state)
+
+    abbrev FitsThere : stream.Stepped (Session Table) (Event Said) → Type 0
+    FitsThere y = Fitting (seen y) (placesAfter places (r .used) piece (seen y))
+
+    -- a step that is judged, and one that leaves all as it was
+    judged-fits : FitsThere (stepOf (soupBinTCP deliver) st piece)
+    judged-fits =
+        let x = stepOf (soupBinTCP deliver) st piece in
         let q : Places (x .state) (placesBy (x .answer) places (overlay places (r .used) (part piece 0 (x .taken))))
         = subst (λ (n : ℕ). Places (x .state) (placesBy (x .answer) places (overlay places n (part piece 0 (x .taken))))) own-used
         (step-places piece places places-long st (omega (arith, own-used, w .start)) (ap (λ (n : ℕ). take n places) own-used ∙ sym (held-in r table))) in
         record {
-          head = state-head (x .state) (length (heldIn (x .state))) (f .state) (q .few);
-          answer = f .answer;
-          some = state-some (x .state) (f .state);
+          head = state-head (x .state) (length (heldIn (x .state))) (step-has .state) (q .few);
+          answer = step-has .answer;
+          some = state-some (x .state) (step-has .state);
           long = q .long;
           holds = q .holds;
         }
+
+    unmoved-fits : FitsThere (unmoved st)
+    unmoved-fits = subst (λ (n : ℕ). Fitting (record { step = unmoved st; used = n; texts = noText }) places) (sym own-used) unfit-fits
+
+    goes-fits : FitsThere (stepIn st piece)
+    unfolding stepIn
+    goes-fits =
+        both FitsThere (isUnfit (stepOf (soupBinTCP deliver) st piece .answer)) (λ _. unmoved-fits) (λ _. judged-fits)
 
   -- THEOREM
   pub all-fits : Bytes piece → (let x = stepAll r table piece in Fitting x (placesAfter places (r .used) piece x))
   unfolding stepAll
   all-fits p =
-      both (λ (x : Seen). Fitting x (placesAfter places (r .used) piece x)) (withinLimits r table)
-      (λ e. goes-fits p (within r table e)) (λ _. unfit-fits)
+      both (λ (x : Seen). Fitting x (placesAfter places (r .used) piece x)) (mayStep r table)
+      (λ e. goes-fits p (may-within r table e)) (λ _. unfit-fits)
 
 -- ---- THE THEOREMS
 
@@ -317,7 +334,7 @@ module _ (handle : List ℕ) (table : Memories) (piece event handle′ : List �
   -- THE STATE
   pub state-on : stateOf (readerIn handle′) table′ ≡ x .step .state
   state-on =
-      (λ i. stateOf (reader-on i) (stepped i .table)) ∙ state-back (x .step .state) (x .used) left (fitting .some) (fitting .holds)
+      (λ i. stateOf (reader-on i) (stepped i .memory)) ∙ state-back (x .step .state) (x .used) left (fitting .some) (fitting .holds)
 
   -- how many bytes are held
   pub used-on : readerIn handle′ .used ≡ x .used
@@ -343,7 +360,7 @@ goes-on handle table piece event handle′ table′ event′ a b p h is long =
 -- the texts beside an answer are its own
 texts-of : (r : Reader) (table : Memories) (piece : List ℕ) → stepAll r table piece .texts ≡ answerTexts (stepAll r table piece .step .answer)
 unfolding stepAll
-texts-of r table piece = both (λ (x : Seen). x .texts ≡ answerTexts (x .step .answer)) (withinLimits r table) (λ _. refl) (λ _. refl)
+texts-of r table piece = both (λ (x : Seen). x .texts ≡ answerTexts (x .step .answer)) (mayStep r table) (λ _. refl) (λ _. refl)
 
 pub by-value : (r r′ : Reader) (handle : List ℕ) (table : Memories) (piece event handle′ : List ℕ) (table′ : Memories) (event′ : List ℕ) (a : ℕ) (h : Heard) → HeadFits (headPart r) → length (r .held) ≡ heldSize
     → length event ≡ recordSize → Bytes handle → Bytes piece → handle ≡ handleBytes (headPart r) (r .held)

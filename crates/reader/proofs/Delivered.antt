@@ -28,9 +28,10 @@ use Rattle.message.proofs.Tested.{test-empty, test-some}
 use Rattle.packet.specs.Frame.{heldSize}
 use Rattle.packet.specs.Numbering.{numberAfter}
 use Rattle.packet.specs.Session.{Delivered, done, denied, delivered}
-use Rattle.table.specs.Memory.{Memories, Fitting}
+use Rattle.table.specs.Memory.{Memories, memories}
+use Rattle.table.specs.Index.{lentFit, LentFitting}
 use Rattle.table.specs.Board as tables
-use Rattle.table.specs.Board.{Outcome, withEvent, withLive, fits, effect, applyOf}
+use Rattle.table.specs.Board.{Indexed, beside, withEvent, withLive, effect, applyOf}
 use Rattle.table.specs.Wire.{placed}
 use Rattle.table.specs.declared.Board.{Board}
 use Rattle.table.specs.declared.Refusal as tableRefusal
@@ -39,14 +40,14 @@ use Rattle.table.specs.declared.Verdict as tableVerdict
 use Rattle.table.specs.declared.Verdict.the-variants as verdict
 use Rattle.table.specs.declared.wire.Placed.{Placed}
 use Rattle.table.specs.declared.wire.Placed.the-variants.{Kept, Added, Refused}
-use Rattle.table.proofs.Ways.{fitting-rows}
+use Rattle.table.proofs.Ways.{fitting-lent}
 use Rattle.table.proofs.Wired.{event-wired, end-wired}
 use Rattle.handle.specs.Handle.{isHandle, headOf, handleBytes, placesIn, withBoard, nextField, liveField, rowsField, refusalField, eventField, withField}
 use Rattle.handle.specs.declared.Head.{Head}
 use Rattle.handle.proofs.Rounds.{handle-length, session-length}
 use Rattle.handle.proofs.Laid.{handle-back}
 use Rattle.handle.proofs.Single.{next-put, live-put, rows-put, refusal-put, event-put}
-use Rattle.reader.specs.Deliver.{Table, tableOf, Said, said, settledBy, settled, heard, deliver}
+use Rattle.reader.specs.Deliver.{Table, tableOf, tableBy, Said, said, settledBy, settled, heard, deliver}
 use Rattle.reader.specs.Calls.{verdictNumber}
 use Rattle.reader.specs.Handles.{eventNumber, toldNumber, Left, left}
 use Rattle.reader.specs.Shapes.{Going, Ready, closedAs, appliedAs, triedAs}
@@ -104,23 +105,24 @@ denied-is t body {n} e d = by (readOf body .answer) (λ z. d (e ∙ z)) ∙ ap (
     by (answers.Is m) h = absurd (h refl)
     by (answers.Refused x) h = refl
 
-heard-is : (b : Board) (mem body : List ℕ) (m : Message) (t : Texts) → Fitting (b .rows) mem → readOf body ≡ accepted m t
+heard-is : (b : Board) (mem : Memories) (body : List ℕ) (m : Message) (t : Texts) → LentFitting (b .rows) mem → readOf body ≡ accepted m t
     → deliver (tableOf b mem) body ≡ settled (said m t) (effect b m t mem)
-unfolding deliver applyOf fits
+unfolding deliver applyOf
 heard-is b mem body m t f e =
-    ap (λ (r : Reading). heard (tableOf b mem) (r .texts) (r .answer)) e ∙ (rw (fitting-rows (b .rows) mem f))
+    ap (λ (r : Reading). heard (tableOf b mem) (r .texts) (r .answer)) e ∙ (rw (fitting-lent (b .rows) mem f))
 
 -- ---- placed in its row
 
 module _ (handle : List ℕ) (is : isHandle handle ≡ true) (lent : Lent handle) (body : List ℕ) (table : Memories) (rows : ℕ) (q : rows ≡ headOf handle .board .rows)
     (w : Placed) (table′ : Memories)
-    (p : (b : Board) (m : Message) (t : Texts) → b .rows ≡ rows → readOf body ≡ accepted m t → placed w b table′ ≡ effect b m t table) where
+    (p : (b : Board) (m : Message) (t : Texts) → b .rows ≡ rows → readOf body ≡ accepted m t → beside (table′ .index) (placed w b (table′ .table)) ≡ effect b m t table) where
   abbrev b : Board
   b = headOf handle .board
 
   placed-as : {x : Placed} → w ≡ x → (m : Message) (t : Texts) → readOf body ≡ accepted m t
-      → appliedAs (placed x b table′) handle ≡ appliedAs (effect b m t table) handle
-  placed-as e m t f = ap (λ (o : Outcome). appliedAs o handle) (ap (λ (x : Placed). placed x b table′) (sym e) ∙ p b m t (sym q) f)
+      → appliedAs (beside (table′ .index) (placed x b (table′ .table))) handle ≡ appliedAs (effect b m t table) handle
+  placed-as e m t f =
+      ap (λ (o : Indexed). appliedAs o handle) (ap (λ (x : Placed). beside (table′ .index) (placed x b (table′ .table))) (sym e) ∙ p b m t (sym q) f)
 
   pub place-kept : w ≡ Kept → (m : Message) (t : Texts) → readOf body ≡ accepted m t → left 0 handle table′ ≡ appliedAs (effect b m t table) handle
   place-kept e m t f = ap (λ (x : List ℕ). left 0 x table′) (own handle is lent) ∙ placed-as e m t f
@@ -142,15 +144,15 @@ module _ (handle : List ℕ) (is : isHandle handle ≡ true) (lent : Lent handle
       → readOf body ≡ accepted m t → left 0 handle′ table ≡ appliedAs (effect (headOf handle .board) m t table) handle
   apply-event {v} k e g m t f =
       ap (λ (x : List ℕ). left 0 x table) (event-put (headOf handle) (placesIn handle) (own-ten handle is) (own handle is lent) v g)
-      ∙ ap (λ (n : ℕ). appliedAs (tables.accepted (withEvent n (headOf handle .board)) table) handle) e
-      ∙ ap (λ (o : Outcome). appliedAs o handle) (sym (event-wired body (headOf handle .board) m t table f k))
+      ∙ ap (λ (n : ℕ). appliedAs (beside (table .index) (tables.accepted (withEvent n (headOf handle .board)) (table .table))) handle) e
+      ∙ ap (λ (o : Indexed). appliedAs o handle) (sym (event-wired body (headOf handle .board) m t table f k))
 
   pub apply-live : {v : ℕ} → getD body 0 0 ≡ 77 → v ≡ endOfReplayOf (values endOfReplayRows body) .number → handle′ ≡ withField liveField v handle
       → (m : Message) (t : Texts) → readOf body ≡ accepted m t → left 0 handle′ table ≡ appliedAs (effect (headOf handle .board) m t table) handle
   apply-live {v} k e g m t f =
       ap (λ (x : List ℕ). left 0 x table) (live-put (headOf handle) (placesIn handle) (own-ten handle is) (own handle is lent) v g)
-      ∙ ap (λ (n : ℕ). appliedAs (tables.accepted (withLive n (headOf handle .board)) table) handle) e
-      ∙ ap (λ (o : Outcome). appliedAs o handle) (sym (end-wired body (headOf handle .board) m t table f k))
+      ∙ ap (λ (n : ℕ). appliedAs (beside (table .index) (tables.accepted (withLive n (headOf handle .board)) (table .table))) handle) e
+      ∙ ap (λ (o : Indexed). appliedAs o handle) (sym (end-wired body (headOf handle .board) m t table f k))
 
 -- ---- delivered
 
@@ -182,7 +184,7 @@ module _ (handle : List ℕ) (table : Memories) (g : Going handle table) (lent :
     is-message : Passed (readOf body)
     is-message = passed (readOf body) (sym e ∙ z)
 
-    abbrev effect-is : Outcome
+    abbrev effect-is : Indexed
     effect-is = effect (headOf handle .board) (is-message .0) (is-message .1) table
 
     heard-here : deliver here body ≡ settled (said (is-message .0) (is-message .1)) effect-is
@@ -194,12 +196,13 @@ module _ (handle : List ℕ) (table : Memories) (g : Going handle table) (lent :
     pub tried-applied : left r handle′ table′ ≡ triedAs (deliver here body) handle
     tried-applied =
         left-is
-        ∙ by (effect-is .applied .verdict)
+        ∙ by (effect-is .outcome .applied .verdict)
         ∙ ap (λ (x : Delivered Table Said). triedAs x handle) (sym heard-here)
       where
         by : (v : tableVerdict.Verdict)
-            → left (verdictNumber v) (handleBytes (withBoard (effect-is .applied .board) (headOf handle)) (placesIn handle)) (effect-is .memory)
-            ≡ triedAs (settledBy v (said (is-message .0) (is-message .1)) (tableOf (effect-is .applied .board) (effect-is .memory))) handle
+            → (let t = tableBy effect-is in
+            left (verdictNumber v) (handleBytes (withBoard (t .board) (headOf handle)) (placesIn handle)) (t .memory)
+            ≡ triedAs (settledBy v (said (is-message .0) (is-message .1)) t) handle)
         by verdict.Accepted = refl
         by (verdict.Refused x) = refl
 
@@ -218,7 +221,7 @@ heard-some : (t : Table) (texts : Texts) (a : Answer) → DeniedSome (heard t te
 heard-some t texts (answers.Refused r) = read-some r
 heard-some t texts (answers.Is m) =
     let o = applyOf (t .board) m texts (t .memory) in
-    settled-some (said m texts) (o .applied .verdict) (tableOf (o .applied .board) (o .memory))
+    settled-some (said m texts) (o .outcome .applied .verdict) (tableBy o)
 
 deliver-some : (t : Table) (body : List ℕ) → DeniedSome (deliver t body)
 unfolding deliver
@@ -246,7 +249,7 @@ module _ (handle : List ℕ) (table : Memories) (g : Ready handle table) (r : �
       let same : r ≡ n = ap (λ (s : Left). s .number) w in
       let put = refusal-put (withBoard (t .board) h) held ten (ap (λ (s : Left). s .handle) w) r p in
       let count : a ≡ 2048 + n + 0 * 65_536 = omega (arith, f, same) in
-      (λ i. left (count i) (put i) (w i .table))
+      (λ i. left (count i) (put i) (w i .memory))
       ∙ (λ i. left (2048 + n + 0 * 65_536)
       (handleBytes (record { line = h .line; board = t .board; ended = g .going .live i; refusal = same i; used = g .unheld i }) held) (t .memory))
 
@@ -257,7 +260,7 @@ module _ (handle : List ℕ) (table : Memories) (g : Ready handle table) (r : �
   done-as (denied n t) next some w z f p = absurd (some (sym (ap (λ (s : Left). s .number) w) ∙ z))
   done-as (done x t) next some w z f p =
       let put = next-put (withBoard (t .board) h) held ten (ap (λ (s : Left). s .handle) w) next p in
-      (λ i. left 768 (put i) (w i .table))
+      (λ i. left 768 (put i) (w i .memory))
       ∙ (λ i. left 768
       (handleBytes (record {
         line = record { session = h .line .session; known = h .line .known; logged = h .line .logged; next = f i };

@@ -48,13 +48,12 @@ use Rattle.packet.proofs.Rules.{both}
 use Rattle.packet.proofs.Known.{Known, packet-known, follows-number}
 use Rattle.packet.proofs.Keep.{StateHas}
 use Rattle.packet.proofs.Bytes.{bytes-append, frame-bytes}
-use Rattle.table.specs.Memory.{mostRows}
+use Rattle.table.specs.Memory.{mostRows, Memories, Found, At, Nothing}
+use Rattle.table.specs.Index.{foundOf}
 use Rattle.table.specs.Board as tables
 use Rattle.table.specs.Board.{look, applyOf}
 use Rattle.table.specs.Places.{boardAt, boardAfter}
 use Rattle.table.specs.declared.Board.{Board}
-use Rattle.table.specs.declared.Found.{Found}
-use Rattle.table.specs.declared.Found.the-variants.{At, Nothing}
 use Rattle.table.specs.declared.Refusal as tableRefusal
 use Rattle.table.specs.declared.Refusal.the-variants as tableRefusals
 use Rattle.table.specs.declared.Verdict.{Verdict}
@@ -63,7 +62,7 @@ use Rattle.table.proofs.Exactly.{exactly-board, refused-leaves, apply-few}
 use Rattle.record.specs.Record.{Roomy}
 use Rattle.record.proofs.Typed.{roomy}
 use Rattle.reader.specs.Refusals.{refusalNumber, named, namedIn}
-use Rattle.reader.specs.Deliver.{Table, tableOf, Said, said, settledBy, heard, deliver}
+use Rattle.reader.specs.Deliver.{Table, tableOf, tableBy, Said, said, settledBy, heard, deliver}
 use Rattle.reader.specs.View.{heldIn}
 use Rattle.reader.specs.declared.Refusal.{Refusal}
 use Rattle.reader.specs.declared.Refusal.the-variants as refusal
@@ -192,18 +191,19 @@ DeliveredFits (done x t) = EventFits (packets.message x) × BoardFits (t .board)
 DeliveredFits (denied n t) = Numbered n × BoardFits (t .board)
 
 module _ (t : Table) (h : BoardFits (t .board)) where
-  settled-fits : (m : Message) (texts : Texts) (v : Verdict) (b : Board) (mem : List ℕ)
-      → applyOf (t .board) m texts (t .memory) ≡ tables.outcome (record { board = b; verdict = v }) mem → EventFits (packets.message (said m texts))
-      → DeliveredFits (settledBy v (said m texts) (tableOf b mem))
+  settled-fits : (m : Message) (texts : Texts) (v : Verdict) (b : Board) (l : Memories)
+      → applyOf (t .board) m texts (t .memory) .outcome ≡ tables.outcome (record { board = b; verdict = v }) (l .table)
+      → EventFits (packets.message (said m texts)) → DeliveredFits (settledBy v (said m texts) (tableOf b l))
   unfolding boardAfter
-  settled-fits m texts verdict.Accepted b mem e f =
-      let same : b ≡ boardAt (t .board) m (look (t .board) m (t .memory)) = exactly-board (t .board) m texts (t .memory) b mem e in
+  settled-fits m texts verdict.Accepted b l e f =
+      let w : Found = foundOf (look (t .board) m (t .memory)) in
+      let same : b ≡ boardAt (t .board) m w = exactly-board (t .board) m texts (t .memory) b (l .table) e in
       let few : b .rows ≤ mostRows
       = subst (λ (o : tables.Outcome). o .applied .board .rows ≤ mostRows) e (apply-few (t .board) (t .memory) (h .rows) m texts) in
-      (f, subst BoardFits (sym same) (board-fits (t .board) m texts (look (t .board) m (t .memory)) (subst (λ (x : Board). x .rows ≤ mostRows) same few) h (f .0)))
-  settled-fits m texts (verdict.Refused r) b mem e f = (
+      (f, subst BoardFits (sym same) (board-fits (t .board) m texts w (subst (λ (x : Board). x .rows ≤ mostRows) same few) h (f .0)))
+  settled-fits m texts (verdict.Refused r) b l e f = (
     table-numbered r,
-    subst BoardFits (sym (refused-leaves (t .board) m texts (t .memory) r b mem e .0)) h,
+    subst BoardFits (sym (refused-leaves (t .board) m texts (t .memory) r b (l .table) e .0)) h,
   )
 
   heard-fits : (texts : Texts) (a : answers.Answer) → ((m : Message) → a ≡ read.Is m → EventFits (packets.message (said m texts)))
@@ -211,7 +211,7 @@ module _ (t : Table) (h : BoardFits (t .board)) where
   heard-fits texts (read.Refused r) f = (message-numbered r, h)
   heard-fits texts (read.Is m) f =
       let o = applyOf (t .board) m texts (t .memory) in
-      settled-fits m texts (o .applied .verdict) (o .applied .board) (o .memory) refl (f m refl)
+      settled-fits m texts (o .outcome .applied .verdict) (o .outcome .applied .board) (tableBy o .memory) refl (f m refl)
 
   deliver-fits : (body : List ℕ) → Bytes body → DeliveredFits (deliver t body)
   unfolding deliver

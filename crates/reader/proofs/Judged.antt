@@ -44,7 +44,7 @@ logged-laid handle body h l e f g =
 
 -- ---- any packet but a message
 
-module _ (handle : List ℕ) (r : (t : List ℕ) × Ready handle t) (lent : Lent handle) (letter : ℕ) (body : List ℕ) where
+module _ (handle : List ℕ) (r : (t : Memories) × Ready handle t) (lent : Lent handle) (letter : ℕ) (body : List ℕ) where
   abbrev h : Head
   h = headOf handle
 
@@ -65,13 +65,13 @@ module _ (handle : List ℕ) (r : (t : List ℕ) × Ready handle t) (lent : Lent
   idle-here = own handle is lent ∙ ap (λ (x : Head). handleBytes x held) (idle-is (h .line))
 
   module _ {p : Packet} (e : p ≡ packetOf (h .line) letter body) where
-    acts : {q : Packet} (t : List ℕ) → p ≡ q
+    acts : {q : Packet} (t : Memories) → p ≡ q
         → closedAs (does deliver (sessionAt handle t) body q) handle ≡ closedAs (soupBinTCP deliver (sessionAt handle t) letter body) handle
     unfolding soupBinTCP
     acts t f = ap (λ (x : Packet). closedAs (does deliver (sessionAt handle t) body x) handle) (sym f ∙ e)
 
     pub other-login : {n : ℕ} {handle′ : List ℕ} → 10 ≤ length body → p ≡ packet.Login n
-        → handle′ ≡ overlay handle 0 (headBytes (withLine (loggedIn (h .line) (loginSession body)) h)) → (t : List ℕ)
+        → handle′ ≡ overlay handle 0 (headBytes (withLine (loggedIn (h .line) (loginSession body)) h)) → (t : Memories)
         → left 256 handle′ t ≡ closedAs (soupBinTCP deliver (sessionAt handle t) letter body) handle
     unfolding toldNumber eventNumber
     other-login {n} l f g t =
@@ -81,29 +81,29 @@ module _ (handle : List ℕ) (r : (t : List ℕ) × Ready handle t) (lent : Lent
         ap (λ (x : List ℕ). left 256 x t) put ∙ ap (λ (x : Head). left 256 (handleBytes x held) t) (idle-is line) ∙ acts t f
 
     pub other-rejected : {n : ℕ} {handle′ : List ℕ} → p ≡ packet.Rejected n → handle′ ≡ withField endedField 1 handle
-        → (t : List ℕ) → left 512 handle′ t ≡ closedAs (soupBinTCP deliver (sessionAt handle t) letter body) handle
+        → (t : Memories) → left 512 handle′ t ≡ closedAs (soupBinTCP deliver (sessionAt handle t) letter body) handle
     unfolding toldNumber eventNumber
     other-rejected f g t =
         ap (λ (x : List ℕ). left 512 x t) (ended-put (idle (h .line)) held (own-ten handle is) idle-here g) ∙ acts t f
 
-    pub other-heartbeat : p ≡ packet.Heartbeat → (t : List ℕ)
+    pub other-heartbeat : p ≡ packet.Heartbeat → (t : Memories)
         → left 1024 handle t ≡ closedAs (soupBinTCP deliver (sessionAt handle t) letter body) handle
     unfolding toldNumber eventNumber
     other-heartbeat f t = ap (λ (x : List ℕ). left 1024 x t) idle-here ∙ acts t f
 
-    pub other-end : {handle′ : List ℕ} → p ≡ packet.End → handle′ ≡ withField endedField 1 handle → (t : List ℕ)
+    pub other-end : {handle′ : List ℕ} → p ≡ packet.End → handle′ ≡ withField endedField 1 handle → (t : Memories)
         → left 1280 handle′ t ≡ closedAs (soupBinTCP deliver (sessionAt handle t) letter body) handle
     unfolding toldNumber eventNumber
     other-end f g t =
         ap (λ (x : List ℕ). left 1280 x t) (ended-put (idle (h .line)) held (own-ten handle is) idle-here g) ∙ acts t f
 
-    pub other-skipped : p ≡ packet.Skipped → (t : List ℕ)
+    pub other-skipped : p ≡ packet.Skipped → (t : Memories)
         → left 1536 handle t ≡ closedAs (soupBinTCP deliver (sessionAt handle t) letter body) handle
     unfolding toldNumber eventNumber
     other-skipped f t = ap (λ (x : List ℕ). left 1536 x t) idle-here ∙ acts t f
 
     pub other-refused : {d : Fault} (x : Refusal) {n a : ℕ} {handle′ : List ℕ} → p ≡ packet.Refused d → refusalNumber x ≡ faultNumber d → n ≡ refusalNumber x
-        → a ≡ 2048 + n → handle′ ≡ withField refusalField n handle → (t : List ℕ)
+        → a ≡ 2048 + n → handle′ ≡ withField refusalField n handle → (t : Memories)
         → left a handle′ t ≡ closedAs (soupBinTCP deliver (sessionAt handle t) letter body) handle
     unfolding toldNumber
     other-refused {d} x {n} {a} f k j m g t =

@@ -1,11 +1,11 @@
 -- The limits of a handle, and the ways through starting, saving and restoring.
 -- Assumes nothing.
-use mathlib.Core.Path.{_≡_, refl, sym, ap}
+use mathlib.Core.Path.{_≡_, refl, sym, ap, _∙_}
 use mathlib.Core.List.{List, [], _∷_}
-use mathlib.Core.Bool.{Bool, true, false, not, _&&_, _||_}
+use mathlib.Core.Bool.{Bool, true, false, not, _&&_, _||_, and-false}
 use Prim.Native.Nat.{ℕ, _+_, _≤_, _<_}
 use native.Mathlib.Omega.{arith}
-use borrow.Author.Tests.{eqb-true, eqb-false, leb-true, eq-eqb, ne-eqb, le-leb, lt-leb}
+use borrow.Author.Tests.{eqb-true, eqb-false, leb-true, eq-eqb, ne-eqb, le-leb, lt-leb, not-true, not-false}
 use lib.Dec.{eqb, leb}
 use lib.ListN.{length, take, drop}
 use lib.Seq.{length-take-le}
@@ -16,7 +16,6 @@ use Rattle.packet.specs.Frame.{Framed, short, badLength, packet, frame, frontOf
 use Rattle.packet.specs.Stream.{stepOf}
 use Rattle.packet.specs.Line.{freshLine, waiting}
 use Rattle.packet.specs.declared.Line.{Line}
-use Rattle.packet.specs.Session.{soupBinTCP}
 use Rattle.packet.specs.declared.Framing.{Framing}
 use Rattle.packet.specs.declared.Framing.the-variants.{Short, BadLength, Whole}
 use Rattle.packet.proofs.Frame.{short-there, bad-there, whole-there}
@@ -25,9 +24,11 @@ use Rattle.handle.specs.Handle.{headSize, handleSize, isHandle, headOf}
 use Rattle.handle.specs.declared.Head.{Head}
 use Rattle.handle.proofs.Rounds.{handle-length}
 use Rattle.table.specs.Memory.{Memories, rowsFit}
+use Rattle.table.specs.Index.{indexSize, isIndex}
 use Rattle.table.specs.Board as tables
-use Rattle.table.specs.Board.{fits, outcome, startOf}
+use Rattle.table.specs.Board.{freshBoard, fits, outcome, beside, startOf}
 use Rattle.table.specs.declared.Applied.{Applied}
+use Rattle.table.specs.declared.Board.{Board}
 use Rattle.table.specs.declared.Refusal as tableRefusal
 use Rattle.table.specs.declared.Verdict.the-variants as table
 use Rattle.image.specs.Save.{saving, saveOf}
@@ -37,13 +38,13 @@ use Rattle.image.specs.declared.Refusal.the-variants as images
 use Rattle.image.specs.declared.Saved.{Saved}
 use Rattle.image.specs.declared.Saved.the-variants as saved
 use Rattle.image.specs.declared.Restored as image
+use Rattle.image.specs.declared.Verdict.the-variants as verdict
 use Rattle.reader.specs.Refusals.{refusalNumber, standing, standingRefusals, namedIn, named}
-use Rattle.reader.specs.Deliver.{deliver}
 use Rattle.reader.specs.View.{readerWith, heldOf, stateOf, seen, stillOf, readyOf}
-use Rattle.reader.specs.Limits.{isShort, unfinished, holdsUnfinished, withinLimits, lentWithin, headWith}
-use Rattle.reader.specs.Calls.{stepAll, Stepping, startAll, Starting}
-use Rattle.reader.specs.Handles.{readerIn, hostWithin}
-use Rattle.reader.specs.Saving.{headerOf, writtenBy, saveAll, Saves, lineOf, restoreAll, Restores}
+use Rattle.reader.specs.Limits.{isShort, unfinished, holdsUnfinished, withinLimits, mayStep, lentWithin, headWith}
+use Rattle.reader.specs.Calls.{stepIn, stepAll, Stepping, startAll, Starting}
+use Rattle.reader.specs.Handles.{readerIn, hostWithin, hostMayStep}
+use Rattle.reader.specs.Saving.{headerOf, writtenBy, saveAll, Saves, lineOf, indexAfter, restoreAll, Restores}
 use Rattle.reader.specs.declared.Refusal.{Refusal}
 use Rattle.reader.specs.declared.Refusal.the-variants.{HighCeiling}
 use Rattle.reader.specs.declared.Reader.{Reader}
@@ -141,7 +142,7 @@ limits-of r memory l e = rw (eq-eqb (length (r .held)) heldSize l) at e
 pub handle-long : (handle : List ℕ) {w : Bool} → w ≡ isHandle handle → not w ≡ false → length handle ≡ handleSize
 handle-long handle {w} e f = handle-length handle (not-not-call w (isHandle handle) e f)
 
-module _ (handle : List ℕ) (table : Memories) {w : Bool} (e : w ≡ isHandle handle) where
+module _ (handle table : List ℕ) {w : Bool} (e : w ≡ isHandle handle) where
   pub host-none : not w ≡ true → false ≡ hostWithin handle table
   unfolding hostWithin
   host-none f = rw (not-call w (isHandle handle) e f)
@@ -226,13 +227,58 @@ named-number n s h = named-in (HighCeiling ∷ standingRefusals) n (λ d. by (le
     by true e d g = let l = leb-true n 6 e in low n l (omega arith) d
     by false e d g = let b = and-both (leb 10 n) (leb n 16) g in high n (leb-true n 16 (b .1)) (leb-true 10 n (b .0)) d
 
+-- ---- a handle that may step: within its limits, with index memory of its length
+
+module _ (r : Reader) (memory : Memories) (e : mayStep r memory ≡ true) where
+  pub may-limits : withinLimits r (memory .table) ≡ true
+  unfolding mayStep
+  may-limits = and-both (withinLimits r (memory .table)) (isIndex (memory .index)) e .0
+
+  pub may-within : Within r (memory .table)
+  may-within = within r (memory .table) may-limits
+
+  pub may-index : length (memory .index) ≡ indexSize
+  unfolding mayStep
+  may-index = eqb-true (length (memory .index)) indexSize (and-both (withinLimits r (memory .table)) (isIndex (memory .index)) e .1)
+
+-- the two tests of a handle where it lies
+module _ (handle : List ℕ) (memory : Memories) where
+  host-may : hostMayStep handle memory ≡ hostWithin handle (memory .table) && isIndex (memory .index)
+  unfolding hostMayStep mayStep hostWithin
+  host-may = by (isHandle handle)
+    where
+      by : (y : Bool) → y && (withinLimits (readerIn handle) (memory .table) && isIndex (memory .index))
+          ≡ (y && withinLimits (readerIn handle) (memory .table)) && isIndex (memory .index)
+      by true = refl
+      by false = refl
+
+  pub may-unless-limits : {b : Bool} → b ≡ hostWithin handle (memory .table) → not b ≡ true → hostMayStep handle memory ≡ false
+  may-unless-limits {b} e n = host-may ∙ (rw (not-call b (hostWithin handle (memory .table)) e n))
+
+  pub may-unless-index : {c : Bool} → c ≡ isIndex (memory .index) → not c ≡ true → hostMayStep handle memory ≡ false
+  may-unless-index {c} f n = host-may ∙ (rw (not-call c (isIndex (memory .index)) f n, and-false (hostWithin handle (memory .table))))
+
+  pub may-by : {b c : Bool} → b ≡ hostWithin handle (memory .table) → not b ≡ false → c ≡ isIndex (memory .index) → not c ≡ false
+      → hostMayStep handle memory ≡ true
+  may-by {b} {c} e n f m =
+      host-may ∙ (rw (not-not-call b (hostWithin handle (memory .table)) e n, not-not-call c (isIndex (memory .index)) f m))
+
+  -- bytes that are a handle but may not step
+  pub may-not : isHandle handle ≡ true → hostMayStep handle memory ≡ false → mayStep (readerIn handle) memory ≡ false
+  unfolding hostMayStep
+  may-not is e = rw is at e
+
+pub steps-hold : (r : Reader) (memory : Memories) → Within r (memory .table) → length (memory .index) ≡ indexSize → mayStep r memory ≡ true
+unfolding mayStep
+steps-hold r memory w l = rw (limits-hold r (memory .table) w, eq-eqb (length (memory .index)) indexSize l)
+
 -- ---- a step that takes nothing
 
-module _ (r : Reader) (memory piece : List ℕ) (e : withinLimits r memory ≡ true) where
-  held : Within r memory
-  held = within r memory e
+module _ (r : Reader) (memory : Memories) (piece : List ℕ) (e : mayStep r memory ≡ true) where
+  held : Within r (memory .table)
+  held = may-within r memory e
 
-  goes : stepAll r memory piece ≡ seen (stepOf (soupBinTCP deliver) (stateOf r memory) piece)
+  goes : stepAll r memory piece ≡ seen (stepIn (stateOf r memory) piece)
   unfolding stepAll
   goes = rw e
 
@@ -240,17 +286,23 @@ module _ (r : Reader) (memory piece : List ℕ) (e : withinLimits r memory ≡ t
     held-length : length (heldOf r) ≡ r .used
     held-length = length-take-le (r .used) (r .held) (omega (arith, held .start))
 
+    -- a refusal that stands is not 20
+    stands-fit : eqb (r .refusal) 20 ≡ false
+    unfolding standing
+    stands-fit = ne-eqb (r .refusal) 20 (λ z. never (sym (ap standing z) ∙ held .stands))
+
     pub step-refused : (r .refusal ≡ 0 → ⊥) → Stepping r memory piece (stillOf r (answer.Refused (named (r .refusal)))) memory
-    unfolding stepOf
-    step-refused h = rw (goes, named-number (r .refusal) (held .stands) h) (simp (ne-eqb (r .refusal) 0 h, held-length))
+    unfolding stepOf stepIn
+    step-refused h = rw (goes, named-number (r .refusal) (held .stands) h) (simp (ne-eqb (r .refusal) 0 h, stands-fit, held-length))
 
     pub step-ended : r .refusal ≡ 0 → r .ended ≡ true → Stepping r memory piece (stillOf r answer.Ended) memory
-    unfolding stepOf
+    unfolding stepOf stepIn
     step-ended h k = rw goes (simp (eq-eqb (r .refusal) 0 h, k, held-length))
 
 -- ---- the ways through starting
 
-module _ (memory after : List ℕ) (a : Applied) (l : Line) (r : Reader) (e : outcome a after ≡ startOf memory) (i : l ≡ freshLine) (f : r ≡ readyOf l (a .board)) where
+module _ (memory after : Memories) (a : Applied) (l : Line) (r : Reader) (e : beside (after .index) (outcome a (after .table)) ≡ startOf memory)
+    (i : l ≡ freshLine) (f : r ≡ readyOf l (a .board)) where
   pub start-ready : a .verdict ≡ table.Accepted → Starting memory (record { reader = r; answer = started.Ready }) after
   unfolding startAll
   start-ready g = rw (f, i, ← e, g)
@@ -282,7 +334,16 @@ module _ (h : Header) where
   pub line-fresh : {l : Line} → h .known ≡ false → l ≡ freshLine → l ≡ lineOf h
   line-fresh k e = rw k e
 
-pub restore-goes : (bytes memory after : List ℕ) (b : image.Restored) (l : Line) (r : Reader) → restoring b after ≡ restoreOf bytes memory
-    → l ≡ lineOf (b .header) → r ≡ readyOf l (b .header .board) → Restores bytes memory (record { reader = r; verdict = b .verdict }) after
-unfolding restoreAll
-restore-goes bytes memory after b l r e f g = rw (g, f, ← e)
+module _ (bytes : List ℕ) (memory : Memories) {w : Bool} (told : w ≡ isIndex (memory .index)) where
+  pub restore-unfit : (l : Line) (b : Board) (r : Reader) → not w ≡ true → l ≡ freshLine → b ≡ freshBoard → r ≡ readyOf l b
+      → Restores bytes memory (record { reader = r; verdict = verdict.Refused images.Unfit }) memory
+  unfolding restoreAll
+  restore-unfit l b r n f g e = rw (← told, not-true w n, e, f, g)
+
+  -- the verdict is told, and the index of an accepted image's rows is built
+  pub restore-goes : (after : Memories) (b : image.Restored) (l : Line) (r : Reader) → not w ≡ false
+      → restoring b (after .table) ≡ restoreOf bytes (memory .table)
+      → after .index ≡ indexAfter (b .verdict) (b .header .board .rows) (after .table) (memory .index)
+      → l ≡ lineOf (b .header) → r ≡ readyOf l (b .header .board) → Restores bytes memory (record { reader = r; verdict = b .verdict }) after
+  unfolding restoreAll
+  restore-goes after b l r y e x f g = rw (← told, not-false w y, g, f, ← e, ← x)

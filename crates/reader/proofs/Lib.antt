@@ -3,11 +3,13 @@ pub mod Kept
 pub mod Views
 pub mod Answers
 pub mod Fits
+pub mod Undone
 pub mod Back
 pub mod Delivered
 pub mod Judged
 pub mod Steps
 pub mod Telling
 pub mod Onward
+pub mod Astray
 pub mod Runs
 pub mod RunsBack

@@ -15,8 +15,9 @@ use Rattle.packet.specs.Frame.{Framed, short, badLength, packet, frame, heldSiz
 use Rattle.packet.specs.Stream as stream
 use Rattle.packet.specs.Stream.{State, live, ended, refused, accept, finish, refuse, stepJudged, stepFramed, stepOf}
 use Rattle.packet.specs.Session.{Session, Event, login, rejected, message, heartbeat, end, skipped, soupBinTCP}
-use Rattle.packet.proofs.Rules.{and-both, never}
+use Rattle.packet.proofs.Rules.{both, never}
 use Rattle.packet.proofs.Frame.{short-fits}
+use Rattle.packet.proofs.Step.{step-within, step-most}
 use Rattle.table.specs.Memory.{Memories, tableSize}
 use Rattle.table.specs.Board.{fits}
 use Rattle.table.proofs.Ways.{rows-fitting, fitting-rows}
@@ -26,16 +27,15 @@ use Rattle.handle.proofs.Laid.{laid-handle}
 use Rattle.reader.specs.Refusals.{standing}
 use Rattle.reader.specs.Deliver.{Table, Said, deliver}
 use Rattle.reader.specs.View.{Seen, seen, readerWith, stateOf, memoryIn, heldIn}
-use Rattle.reader.specs.Limits.{withinLimits}
-use Rattle.reader.specs.Calls.{stepAll, placesBy, placesAfter}
-use Rattle.reader.specs.Handles.{readerIn, hostWithin, headIn, Left, left, eventNumber, toldNumber, takenIn, goneTo, turnedAs, movedBy}
+use Rattle.reader.specs.Calls.{isUnfit, stepIn, stepAll, placesBy, placesAfter}
+use Rattle.reader.specs.Handles.{readerIn, hostMayStep, headIn, Left, left, eventNumber, toldNumber, takenIn, goneTo, turnedAs, movedBy}
 use Rattle.reader.specs.Shapes.{tellsEvent}
 use Rattle.reader.specs.declared.Reader.{Reader}
-use Rattle.reader.proofs.Kept.{Within, within, limits-hold}
+use Rattle.reader.proofs.Kept.{Within, may-within, may-index, steps-hold}
 use Rattle.reader.proofs.Views.{held-in, reader-back}
 use Rattle.reader.proofs.Fits.{numbered-low, AnswerFits, StateFits}
 use Rattle.reader.proofs.Back.{Own, Fitting, all-fits, goes-fits-state, state-back}
-use Rattle.reader.proofs.Steps.{front-laid}
+use Rattle.reader.proofs.Steps.{front-laid, may-step}
 
 -- ---- the number of a step
 
@@ -114,12 +114,17 @@ module _ (places : List ℕ) (used : ℕ) (long : length places ≡ heldSize) (s
   framed-laid s (badLength r) e = none-laid places
   framed-laid s (packet l b r) e = judged-laid (length piece - length r) (soupBinTCP deliver s l b) places _
 
-  step-laid : (st : State (Session Table)) → heldIn st ≡ take used places → Laid (stepOf (soupBinTCP deliver) st piece)
+  judged-step-laid : (st : State (Session Table)) → heldIn st ≡ take used places → Laid (stepOf (soupBinTCP deliver) st piece)
   unfolding stepOf
-  step-laid (live s held) e =
+  judged-step-laid (live s held) e =
       subst (λ (x : List ℕ). Laid (stepFramed (soupBinTCP deliver) s x piece (frame (x ++ piece)))) (sym e) (framed-laid s (frame (take used places ++ piece)) refl)
-  step-laid (ended s held) e = held-laid used places ∙ ap (overlay places 0) (sym e)
-  step-laid (refused s held over n) e = held-laid used places ∙ ap (overlay places 0) (sym e)
+  judged-step-laid (ended s held) e = held-laid used places ∙ ap (overlay places 0) (sym e)
+  judged-step-laid (refused s held over n) e = held-laid used places ∙ ap (overlay places 0) (sym e)
+
+  step-laid : (st : State (Session Table)) → heldIn st ≡ take used places → Laid (stepIn st piece)
+  unfolding stepIn
+  step-laid st e =
+      both Laid (isUnfit (stepOf (soupBinTCP deliver) st piece .answer)) (λ _. held-laid used places ∙ ap (overlay places 0) (sym e)) (λ _. judged-step-laid st e)
 
 -- ---- after an accepted packet nothing is held, and no refusal stands
 
@@ -141,14 +146,19 @@ framed-idle s held piece short h = absurd (never h)
 framed-idle s held piece (badLength r) h = absurd (never h)
 framed-idle s held piece (packet l b r) h = judged-idle (length piece - length r) (soupBinTCP deliver s l b) h
 
-step-idle : (st : State (Session Table)) (piece : List ℕ) → IdleAfter (stepOf (soupBinTCP deliver) st piece)
+judged-step-idle : (st : State (Session Table)) (piece : List ℕ) → IdleAfter (stepOf (soupBinTCP deliver) st piece)
 unfolding stepOf
-step-idle (live s held) piece h = framed-idle s held piece (frame (held ++ piece)) h
-step-idle (ended s held) piece h = absurd (never h)
-step-idle (refused s held e n) piece h = absurd (never h)
+judged-step-idle (live s held) piece h = framed-idle s held piece (frame (held ++ piece)) h
+judged-step-idle (ended s held) piece h = absurd (never h)
+judged-step-idle (refused s held e n) piece h = absurd (never h)
+
+step-idle : (st : State (Session Table)) (piece : List ℕ) → IdleAfter (stepIn st piece)
+unfolding stepIn
+step-idle st piece =
+    both IdleAfter (isUnfit (stepOf (soupBinTCP deliver) st piece .answer)) (λ _ h. absurd (never h)) (λ _. judged-step-idle st piece)
 
 -- and what has room in a handle is within its limits there
-idle-within : (st : State (Session Table)) (places : List ℕ) (table : Memories) → Idle st → StateFits st → length table ≡ tableSize
+idle-within : (st : State (Session Table)) (places table : List ℕ) → Idle st → StateFits st → length table ≡ tableSize
     → Within (readerWith (headIn st (length (heldIn st))) places) table
 unfolding fits standing frame
 idle-within (live s held) places table e f l =
@@ -173,29 +183,43 @@ idle-within (ended s held) places table e f l =
     }
 idle-within (refused s held over n) places table e f l = absurd e
 
+-- ---- how much a step takes: no more than there is, and no more than a packet has
+
+module _ (st : State (Session Table)) (piece : List ℕ) where
+  abbrev judged : stream.Stepped (Session Table) (Event Said)
+  judged = stepOf (soupBinTCP deliver) st piece
+
+  pub takes-within : stepIn st piece .taken ≤ length piece
+  unfolding stepIn
+  takes-within =
+      both (λ (y : stream.Stepped (Session Table) (Event Said)). y .taken ≤ length piece) (isUnfit (judged .answer))
+      (λ _. omega arith) (λ _. step-within (soupBinTCP deliver) st piece)
+
+  pub takes-most : stepIn st piece .taken ≤ heldSize
+  unfolding stepIn
+  takes-most =
+      both (λ (y : stream.Stepped (Session Table) (Event Said)). y .taken ≤ heldSize) (isUnfit (judged .answer))
+      (λ _. omega arith) (λ _. step-most (soupBinTCP deliver) st piece)
+
 -- ---- A STEP OF A HANDLE WITHIN ITS LIMITS
 
-pub keeps-limits : (handle : List ℕ) (table : Memories) → hostWithin handle table ≡ true → withinLimits (readerIn handle) table ≡ true
-unfolding hostWithin
-keeps-limits handle table w = and-both (isHandle handle) (withinLimits (readerIn handle) table) w .1
-
-module _ (handle : List ℕ) (table : Memories) (piece handle′ : List ℕ) (table′ : Memories) (a : ℕ) (o : Own handle) (p : Bytes piece) (w : hostWithin handle table ≡ true)
+module _ (handle : List ℕ) (table : Memories) (piece handle′ : List ℕ) (table′ : Memories) (a : ℕ) (o : Own handle) (p : Bytes piece) (w : hostMayStep handle table ≡ true)
     (h : left a handle′ table′ ≡ turnedAs (movedBy handle table piece)) where
   abbrev st : State (Session Table)
   st = stateOf (readerIn handle) table
 
   abbrev x : stream.Stepped (Session Table) (Event Said)
-  x = stepOf (soupBinTCP deliver) st piece
+  x = stepIn st piece
 
   abbrev places : List ℕ
   places = placesIn handle
 
-  here : Within (readerIn handle) table
-  here = within (readerIn handle) table (keeps-limits handle table w)
+  here : Within (readerIn handle) (table .table)
+  here = may-within (readerIn handle) table (may-step handle table w)
 
   all : stepAll (readerIn handle) table piece ≡ seen x
   unfolding stepAll
-  all = rw (keeps-limits handle table w)
+  all = rw (may-step handle table w)
 
   places-long : length places ≡ heldSize
   places-long = part-length handle headSize heldSize (omega (arith, handle-length handle (o .is)))
@@ -231,7 +255,7 @@ module _ (handle : List ℕ) (table : Memories) (piece handle′ : List ℕ) (ta
 
   pub turned-state : stateOf (readerIn handle′) table′ ≡ x .state
   turned-state =
-      (λ i. stateOf (reader-turned i) (gone i .table)) ∙ state-back (x .state) (length (heldIn (x .state))) left-places (fitting .some) (fitting .holds)
+      (λ i. stateOf (reader-turned i) (gone i .memory)) ∙ state-back (x .state) (length (heldIn (x .state))) left-places (fitting .some) (fitting .holds)
 
   -- the handle and the table that it leaves, with what is held at the front of its places
   pub turned-laid : (left a handle′ table′)
@@ -243,12 +267,12 @@ module _ (handle : List ℕ) (table : Memories) (piece handle′ : List ℕ) (ta
 
   -- an accepted packet leaves the places, and a handle within its limits
   module _ (e : isEvent (x .answer) ≡ true) where
-    pub turned-within : length table′ ≡ length table → hostWithin handle′ table′ ≡ true
-    unfolding hostWithin fits
-    turned-within l =
-        let size : length table′ ≡ tableSize = l ∙ rows-fitting (readerIn handle .board .rows) table (here .fitted) .0 in
-        let y = subst (λ (r : Reader). Within r table′) (sym reader-turned) (idle-within (x .state) left-places table′ (step-idle st piece e) state-fits size) in
-        rw (turned-handle, limits-hold (readerIn handle′) table′ y)
+    pub turned-within : length (table′ .table) ≡ length (table .table) → length (table′ .index) ≡ length (table .index) → hostMayStep handle′ table′ ≡ true
+    unfolding hostMayStep fits
+    turned-within l m =
+        let size : length (table′ .table) ≡ tableSize = l ∙ rows-fitting (readerIn handle .board .rows) (table .table) (here .fitted) .0 in
+        let y = subst (λ (r : Reader). Within r (table′ .table)) (sym reader-turned) (idle-within (x .state) left-places (table′ .table) (step-idle st piece e) state-fits size) in
+        rw (turned-handle, steps-hold (readerIn handle′) table′ y (m ∙ may-index (readerIn handle) table (may-step handle table w)))
 
     pub turned-places : placesIn handle′ ≡ placesIn handle
     turned-places = ap (λ (r : Reader). r .held) reader-turned ∙ by (x .answer) e

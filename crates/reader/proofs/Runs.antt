@@ -15,11 +15,10 @@ use Rattle.packet.specs.Frame.{heldSize}
 use Rattle.packet.specs.Stream as stream
 use Rattle.packet.specs.Stream.{State, live, ended, refused, stepOf}
 use Rattle.packet.specs.Ceiling as ceiling
-use Rattle.packet.specs.Ceiling.{whyAtCeiling, halted, further, runOf}
+use Rattle.packet.specs.Ceiling.{whyAtCeiling, halted, further, runBy}
 use Rattle.packet.specs.Session.{Session, Event, soupBinTCP}
 use Rattle.packet.proofs.Rules.{not-call, not-not-call, never, both}
 use Rattle.packet.proofs.Bytes.{bytes-drop}
-use Rattle.packet.proofs.Step.{step-within, step-most}
 use Rattle.packet.proofs.Ceiling.{Halts, run-event, run-stops}
 use Rattle.handle.specs.Handle.{isHandle, headOf, handleBytes, placesIn}
 use Rattle.handle.specs.declared.Head.{Head}
@@ -27,18 +26,16 @@ use Rattle.handle.proofs.Rounds.{handle-length, head-fits}
 use Rattle.table.specs.Memory.{Memories}
 use Rattle.reader.specs.Deliver.{Table, Said, deliver}
 use Rattle.reader.specs.View.{stateOf, memoryIn, heldIn}
-use Rattle.reader.specs.Handles.{readerIn, hostWithin, headIn, left, toldNumber, takenIn, turnedAs, movedBy}
+use Rattle.reader.specs.Calls.{stepIn}
+use Rattle.reader.specs.Handles.{readerIn, hostMayStep, headIn, left, toldNumber, takenIn, turnedAs, movedBy}
 use Rattle.reader.specs.Running.{seenRun, whyNumber, ranTo}
 use Rattle.reader.specs.Shapes.{stoppedNumber, tellsEvent}
-use Rattle.reader.proofs.Kept.{Within, within}
+use Rattle.reader.proofs.Kept.{may-within}
 use Rattle.reader.proofs.Views.{head-in, memory-in, held-in}
 use Rattle.reader.proofs.Back.{Own, own-bytes}
 use Rattle.reader.proofs.Delivered.{own, own-long}
-use Rattle.reader.proofs.Steps.{within-handle}
-use Rattle.reader.proofs.Onward.{isEvent, NumberBack, held-laid, keeps-limits, turned-number, turned-back, turned-state, turned-laid, turned-within, turned-places}
-
-abbrev judge : Session Table → ℕ → List ℕ → stream.Verdict (Session Table) (Event Said)
-judge = soupBinTCP deliver
+use Rattle.reader.proofs.Steps.{may-handle, may-step}
+use Rattle.reader.proofs.Onward.{isEvent, NumberBack, held-laid, takes-within, takes-most, turned-number, turned-back, turned-state, turned-laid, turned-within, turned-places}
 
 -- a run after so many bytes and packets
 abbrev past : ℕ → ℕ → ceiling.Ran (Session Table) → ceiling.Ran (Session Table)
@@ -46,16 +43,16 @@ past taken finished r = record { state = r .state; taken = taken + r .taken; fin
 
 -- ---- BETWEEN TWO STEPS of a run with the ceiling n
 pub record Along (n : ℕ) (handle₀ : List ℕ) (table₀ : Memories) (piece handle : List ℕ) (table : Memories) (taken finished : ℕ) : Type 0 where
-  pub within : hostWithin handle table ≡ true
+  pub within : hostMayStep handle table ≡ true
   pub few : finished ≤ n
   pub room : taken ≤ finished * heldSize
   pub there : taken ≤ length piece
   pub places : placesIn handle ≡ placesIn handle₀
   pub ran : (d : ℕ) → finished + d ≡ n
-      → runOf (soupBinTCP deliver) n (stateOf (readerIn handle₀) table₀) piece
-      ≡ past taken finished (runOf (soupBinTCP deliver) d (stateOf (readerIn handle) table) (drop taken piece))
+      → runBy stepIn n (stateOf (readerIn handle₀) table₀) piece
+      ≡ past taken finished (runBy stepIn d (stateOf (readerIn handle) table) (drop taken piece))
 
-pub along-begins : (n : ℕ) (handle : List ℕ) (table : Memories) (piece : List ℕ) → hostWithin handle table ≡ true → Along n handle table piece handle table 0 0
+pub along-begins : (n : ℕ) (handle : List ℕ) (table : Memories) (piece : List ℕ) → hostMayStep handle table ≡ true → Along n handle table piece handle table 0 0
 along-begins n handle table piece w =
     record {
       within = w;
@@ -64,8 +61,8 @@ along-begins n handle table piece w =
       there = omega arith;
       places = refl;
       ran = λ d e.
-          let q = runOf judge d (stateOf (readerIn handle) table) piece in
-          ap (λ (k : ℕ). runOf judge k (stateOf (readerIn handle) table) piece) (sym (sym (zero-add d) ∙ e))
+          let q = runBy stepIn d (stateOf (readerIn handle) table) piece in
+          ap (λ (k : ℕ). runBy stepIn k (stateOf (readerIn handle) table) piece) (sym (sym (zero-add d) ∙ e))
           ∙ (λ i. record { state = q .state; taken = sym (zero-add (q .taken)) i; finished = sym (zero-add (q .finished)) i; why = q .why });
     }
 
@@ -74,7 +71,7 @@ rest-is : (piece : List ℕ) (n : ℕ) → take (length piece - n) (drop n piece
 rest-is piece n = take-all (length piece - n) (drop n piece) (omega (arith, length-drop n piece))
 
 -- an answer that is no event stops the run, and its number says why
-why-of : (a : stream.Answer (Event Said)) → isEvent a ≡ false → (w : ceiling.Why) × (Halts judge a w × (toldNumber a ≡ whyNumber w))
+why-of : (a : stream.Answer (Event Said)) → isEvent a ≡ false → (w : ceiling.Why) × (Halts a w × (toldNumber a ≡ whyNumber w))
 unfolding toldNumber whyNumber
 why-of (stream.Event e) f = absurd (never (sym f))
 why-of stream.More f = (ceiling.More, (refl, refl))
@@ -100,10 +97,10 @@ module _ (n : ℕ) (handle₀ : List ℕ) (table₀ : Memories) (piece handle : 
   rest = drop taken piece
 
   abbrev x : stream.Stepped (Session Table) (Event Said)
-  x = stepOf (soupBinTCP deliver) st rest
+  x = stepIn st rest
 
   o : Own handle
-  o = own-bytes handle (within-handle handle table (g .within)) b
+  o = own-bytes handle (may-handle handle table (g .within)) b
 
   h₁ : left a handle′ table′ ≡ turnedAs (movedBy handle table rest)
   h₁ = h ∙ ap (λ (l : List ℕ). turnedAs (movedBy handle table l)) (rest-is piece taken)
@@ -122,12 +119,12 @@ module _ (n : ℕ) (handle₀ : List ℕ) (table₀ : Memories) (piece handle : 
 
   -- it takes no more than there is, and no more than a packet has
   pub turn-there : taken + a / 65_536 ≤ length piece
-  turn-there = omega (arith, turn-taken, step-within judge st rest, length-drop taken piece, g .there)
+  turn-there = omega (arith, turn-taken, takes-within st rest, length-drop taken piece, g .there)
 
   pub turn-room : taken + a / 65_536 ≤ (finished + 1) * heldSize
-  turn-room = omega (arith, turn-taken, step-most judge st rest, g .room)
+  turn-room = omega (arith, turn-taken, takes-most st rest, g .room)
 
-  count-on : (d : ℕ) → finished + suc d ≡ n → past taken finished (runOf judge (suc d) st rest) ≡ runOf judge n (stateOf (readerIn handle₀) table₀) piece
+  count-on : (d : ℕ) → finished + suc d ≡ n → past taken finished (runBy stepIn (suc d) st rest) ≡ runBy stepIn n (stateOf (readerIn handle₀) table₀) piece
   count-on d e = sym (g .ran (suc d) e)
 
   -- a packet was finished
@@ -139,13 +136,13 @@ module _ (n : ℕ) (handle₀ : List ℕ) (table₀ : Memories) (piece handle : 
     state-on = turned-state handle table rest handle′ table′ a o rest-bytes (g .within) h₁
 
     ran-on : (d : ℕ) → finished + 1 + d ≡ n
-        → runOf judge n (stateOf (readerIn handle₀) table₀) piece
-        ≡ past (taken + a / 65_536) (finished + 1) (runOf judge d (stateOf (readerIn handle′) table′) (drop (taken + a / 65_536) piece))
+        → runBy stepIn n (stateOf (readerIn handle₀) table₀) piece
+        ≡ past (taken + a / 65_536) (finished + 1) (runBy stepIn d (stateOf (readerIn handle′) table′) (drop (taken + a / 65_536) piece))
     ran-on d e =
         let v = event-of (x .answer) event in
-        let r = runOf judge d (x .state) (drop (x .taken) rest) in
-        let one : runOf judge (suc d) st rest ≡ further (x .taken) r
-        = run-event judge d st rest (λ i. record { state = x .state; taken = x .taken; answer = v .1 i }) in
+        let r = runBy stepIn d (x .state) (drop (x .taken) rest) in
+        let one : runBy stepIn (suc d) st rest ≡ further (x .taken) r
+        = run-event stepIn d st rest (λ i. record { state = x .state; taken = x .taken; answer = v .1 i }) in
         let t : taken + (x .taken + r .taken) ≡ taken + a / 65_536 + r .taken = omega (arith, turn-taken) in
         let k : finished + suc (r .finished) ≡ finished + 1 + r .finished = omega arith in
         let rest′ : drop (x .taken) rest ≡ drop (taken + a / 65_536) piece
@@ -153,13 +150,13 @@ module _ (n : ℕ) (handle₀ : List ℕ) (table₀ : Memories) (piece handle : 
         g .ran (suc d) (omega (arith, e))
         ∙ ap (past taken finished) one
         ∙ (λ i. record { state = r .state; taken = t i; finished = k i; why = r .why })
-        ∙ ap (λ (l : List ℕ). past (taken + a / 65_536) (finished + 1) (runOf judge d (x .state) l)) rest′
-        ∙ ap (λ (s : State (Session Table)). past (taken + a / 65_536) (finished + 1) (runOf judge d s (drop (taken + a / 65_536) piece))) (sym state-on)
+        ∙ ap (λ (l : List ℕ). past (taken + a / 65_536) (finished + 1) (runBy stepIn d (x .state) l)) rest′
+        ∙ ap (λ (s : State (Session Table)). past (taken + a / 65_536) (finished + 1) (runBy stepIn d s (drop (taken + a / 65_536) piece))) (sym state-on)
 
-    pub along-on : length table′ ≡ length table → Along n handle₀ table₀ piece handle′ table′ (taken + a / 65_536) (finished + 1)
-    along-on l =
+    pub along-on : length (table′ .table) ≡ length (table .table) → length (table′ .index) ≡ length (table .index) → Along n handle₀ table₀ piece handle′ table′ (taken + a / 65_536) (finished + 1)
+    along-on l m =
         record {
-          within = turned-within handle table rest handle′ table′ a o rest-bytes (g .within) h₁ event l;
+          within = turned-within handle table rest handle′ table′ a o rest-bytes (g .within) h₁ event l m;
           few = omega (arith, more);
           room = turn-room;
           there = turn-there;
@@ -179,18 +176,18 @@ module _ (n : ℕ) (handle₀ : List ℕ) (table₀ : Memories) (piece handle : 
     stop-low = omega (arith, low, back .small)
 
     pub run-halts : {r : ℕ} → r ≡ a % 65_536 + finished * 65_536 + (taken + a / 65_536) * 4_294_967_296
-        → left r handle′ table′ ≡ ranTo (seenRun (runOf (soupBinTCP deliver) n (stateOf (readerIn handle₀) table₀) piece)) (placesIn handle₀)
+        → left r handle′ table′ ≡ ranTo (seenRun (runBy stepIn n (stateOf (readerIn handle₀) table₀) piece)) (placesIn handle₀)
     run-halts {r} e =
         let v = why-of (x .answer) none in
         let d : ℕ = n - finished - 1 in
-        let one : runOf judge (suc d) st rest ≡ halted (x .state) (x .taken) (v .0) = run-stops judge d st rest {a = x .answer} refl (v .1 .0) in
-        let all : runOf judge n (stateOf (readerIn handle₀) table₀) piece ≡ past taken finished (halted (x .state) (x .taken) (v .0))
+        let one : runBy stepIn (suc d) st rest ≡ halted (x .state) (x .taken) (v .0) = run-stops stepIn d st rest {a = x .answer} refl (v .1 .0) in
+        let all : runBy stepIn n (stateOf (readerIn handle₀) table₀) piece ≡ past taken finished (halted (x .state) (x .taken) (v .0))
         = g .ran (suc d) (omega (arith, more)) ∙ ap (past taken finished) one in
         let z : finished ≡ finished + 0 = omega arith in
         let k : r ≡ whyNumber (v .0) + (finished + 0) * 65_536 + (taken + x .taken) * 4_294_967_296
         = e ∙ (λ i. (low ∙ v .1 .1) i + z i * 65_536 + (taken + turn-taken i) * 4_294_967_296) in
         let laid = turned-laid handle table rest handle′ table′ a o rest-bytes (g .within) h₁ in
-        (λ i. left (k i) (laid i .handle) (laid i .table))
+        (λ i. left (k i) (laid i .handle) (laid i .memory))
         ∙ ap (λ (l : List ℕ). left (whyNumber (v .0) + (finished + 0) * 65_536 + (taken + x .taken) * 4_294_967_296) (handleBytes (headIn (x .state) (length (heldIn (x .state)))) (overlay l 0 (heldIn (x .state)))) (memoryIn (x .state))) (g .places)
         ∙ ap (λ (y : ceiling.Ran (Session Table)). ranTo (seenRun y) (placesIn handle₀)) (sym all)
 
@@ -218,19 +215,19 @@ stopped-why h s held false end e f = refl
 module _ (n : ℕ) (handle₀ : List ℕ) (table₀ : Memories) (piece handle : List ℕ) (table : Memories) (taken finished : ℕ) (g : Along n handle₀ table₀ piece handle table taken finished)
     (lent : Lent handle) (end : n ≤ finished) where
   is : isHandle handle ≡ true
-  is = within-handle handle table (g .within)
+  is = may-handle handle table (g .within)
 
   held-used : headOf handle .used ≡ length (heldIn (stateOf (readerIn handle) table))
   held-used =
-      let w : Within (readerIn handle) table = within (readerIn handle) table (keeps-limits handle table (g .within)) in
+      let w = may-within (readerIn handle) table (may-step handle table (g .within)) in
       sym (length-take-le (headOf handle .used) (placesIn handle) (omega (arith, own-long handle is, w .start))) ∙ ap length (sym (held-in (readerIn handle) table))
 
   pub run-ends : {w r : ℕ} → w ≡ stoppedNumber (headOf handle) → r ≡ w + finished * 65_536 + taken * 4_294_967_296
-      → left r handle table ≡ ranTo (seenRun (runOf (soupBinTCP deliver) n (stateOf (readerIn handle₀) table₀) piece)) (placesIn handle₀)
-  unfolding runOf
+      → left r handle table ≡ ranTo (seenRun (runBy stepIn n (stateOf (readerIn handle₀) table₀) piece)) (placesIn handle₀)
+  unfolding runBy
   run-ends {w} {r} e f =
       let s : State (Session Table) = stateOf (readerIn handle) table in
-      let all : runOf judge n (stateOf (readerIn handle₀) table₀) piece ≡ past taken finished (halted s 0 (whyAtCeiling s))
+      let all : runBy stepIn n (stateOf (readerIn handle₀) table₀) piece ≡ past taken finished (halted s 0 (whyAtCeiling s))
       = g .ran 0 (omega (arith, g .few, end)) in
       let why : w ≡ whyNumber (whyAtCeiling s)
       = e ∙ stopped-why (headOf handle) _ _ (eqb (headOf handle .refusal) 0) (headOf handle .ended) refl refl in

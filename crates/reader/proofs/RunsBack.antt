@@ -17,12 +17,12 @@ use Rattle.packet.specs.Frame.{Framed, short, badLength, packet, frame, heldSiz
 use Rattle.packet.specs.Stream as stream
 use Rattle.packet.specs.Stream.{State, live, ended, refused, accept, finish, refuse, stepJudged, stepFramed, stepOf}
 use Rattle.packet.specs.Ceiling as ceiling
-use Rattle.packet.specs.Ceiling.{whyAtCeiling, runOf}
+use Rattle.packet.specs.Ceiling.{whyAtCeiling, runBy}
 use Rattle.packet.specs.Session.{Session, Event, soupBinTCP}
 use Rattle.packet.proofs.Rules.{both, and-both, not-call, not-not-call}
 use Rattle.packet.proofs.Bytes.{bytes-none, bytes-append, bytes-drop}
 use Rattle.packet.proofs.Frame.{short-fits}
-use Rattle.packet.proofs.Ceiling.{run-most, run-why, run-keeps}
+use Rattle.packet.proofs.Ceiling.{Halts, step-says, run-most, run-says, run-keeps}
 use Rattle.handle.specs.Handle.{headSize, isHandle, handleBytes, placesIn}
 use Rattle.handle.proofs.Rounds.{HeadFits, handle-length}
 use Rattle.handle.proofs.Laid.{laid-handle}
@@ -30,8 +30,9 @@ use Rattle.table.specs.Memory.{Memories}
 use Rattle.reader.specs.Refusals.{named}
 use Rattle.reader.specs.Deliver.{Table, Said, deliver}
 use Rattle.reader.specs.View.{readerWith, headPart, heldOf, stateOf, heldIn}
-use Rattle.reader.specs.Limits.{withinLimits}
-use Rattle.reader.specs.Handles.{readerIn, hostWithin, headIn, Left, left, kindIn}
+use Rattle.reader.specs.Limits.{mayStep}
+use Rattle.reader.specs.Calls.{isUnfit, stepIn}
+use Rattle.reader.specs.Handles.{readerIn, hostMayStep, headIn, Left, left, kindIn}
 use Rattle.reader.specs.Running.{mostPackets, SeenRun, seenRun, whyOf, refusedRun, runAll, Running, whyNumber, ranNumber, ranTo, runHost, HostRuns, RunsOn, runTakenIn, finishedIn, whyFor, whyIn}
 use Rattle.reader.specs.declared.Refusal.{Refusal}
 use Rattle.reader.specs.declared.Refusal.the-variants.{Unfit, HighCeiling}
@@ -39,12 +40,13 @@ use Rattle.reader.specs.declared.Reader.{Reader}
 use Rattle.reader.specs.declared.Ran.{Ran}
 use Rattle.reader.specs.declared.Why.{Why}
 use Rattle.reader.specs.declared.Why.the-variants as why
-use Rattle.reader.proofs.Kept.{Within, within}
+use Rattle.reader.proofs.Kept.{Within, may-within, may-not}
 use Rattle.reader.proofs.Views.{head-in, held-in, reader-back}
 use Rattle.reader.proofs.Fits.{Numbered, numbered-named, numbered-low, StateFits, step-fits}
 use Rattle.reader.proofs.Back.{StandsSome, Own, own-bytes, own-fits, state-back, state-head, state-some, used-in}
-use Rattle.reader.proofs.Onward.{keeps-limits, held-laid}
+use Rattle.reader.proofs.Onward.{held-laid}
 use Rattle.reader.proofs.Runs.{left-as-held}
+use Rattle.reader.proofs.Steps.{may-handle, may-step}
 
 -- ---- AN ANSWER IS READ BACK
 
@@ -133,16 +135,34 @@ step-held (live s held) piece p h = framed-held s held piece (frame (held ++ pie
 step-held (ended s held) piece p h = h
 step-held (refused s held e n) piece p h = h
 
-step-roomy : (st : State (Session Table)) (piece : List ℕ) → Bytes piece → Roomy st → Roomy (stepOf (soupBinTCP deliver) st piece .state)
-step-roomy st piece p h =
+judged-roomy : (st : State (Session Table)) (piece : List ℕ) → Bytes piece → Roomy st → Roomy (stepOf (soupBinTCP deliver) st piece .state)
+judged-roomy st piece p h =
     let k = step-held st piece p (record { bytes = h .bytes; few = h .few }) in
     record { fits = step-fits st piece (h .bytes) p (h .fits) .state; bytes = k .bytes; few = k .few }
 
--- why it stopped is numbered, for it is what the reader says, or that more is wanted
+step-roomy : (st : State (Session Table)) (piece : List ℕ) → Bytes piece → Roomy st → Roomy (stepIn st piece .state)
+unfolding stepIn
+step-roomy st piece p h =
+    both (λ (y : stream.Stepped (Session Table) (Event Said)). Roomy (y .state)) (isUnfit (stepOf (soupBinTCP deliver) st piece .answer))
+    (λ _. h) (λ _. judged-roomy st piece p h)
+
+-- why it stopped is numbered, for it is what the reader says, or that more is wanted, or 20
 state-why : (st : State (Session Table)) → StateFits st → WhyFits (whyAtCeiling st)
 state-why (live s held) h = tt
 state-why (ended s held) h = tt
 state-why (refused s held e n) h = h .1
+
+judged-why : (st : State (Session Table)) (w : ceiling.Why) → (whyAtCeiling st ≡ w) ⊎ (w ≡ ceiling.More) → StateFits st → WhyFits w
+judged-why st w (inl e) f = subst WhyFits e (state-why st f)
+judged-why st w (inr e) f = subst WhyFits (sym e) tt
+
+step-why : (st : State (Session Table)) (piece : List ℕ) (w : ceiling.Why) → Halts (stepIn st piece .answer) w → StateFits (stepIn st piece .state) → WhyFits w
+unfolding stepIn
+step-why st piece w =
+    let x = stepOf (soupBinTCP deliver) st piece in
+    both (λ (y : stream.Stepped (Session Table) (Event Said)). Halts (y .answer) w → StateFits (y .state) → WhyFits w) (isUnfit (x .answer))
+    (λ _ h f. subst WhyFits (sym h) (record { refusal = Unfit; is = refl }))
+    (λ _ h f. judged-why (x .state) w (step-says (soupBinTCP deliver) st piece w h) f)
 
 pub record RunFits (x : SeenRun) (places : List ℕ) : Type 0 where
   pub head : HeadFits (headIn (x .run .state) (x .used))
@@ -181,35 +201,30 @@ module _ (handle : List ℕ) (table : Memories) (piece : List ℕ) (n : ℕ) (o 
         finished = omega arith;
       }
 
-  allowed-fits : Within r table → n ≤ mostPackets → Fits (seenRun (runOf (soupBinTCP deliver) n st piece))
+  allowed-fits : Within r (table .table) → n ≤ mostPackets → Fits (seenRun (runBy stepIn n st piece))
   allowed-fits w l =
-      let x = runOf (soupBinTCP deliver) n st piece in
+      let x = runBy stepIn n st piece in
       let held : length (heldIn st) ≤ heldSize = rw (held-in r table) (omega (arith, short-fits (heldOf r) (w .short))) in
       let first : Roomy st = record { fits = own-fits handle table piece o p w; bytes = rw (held-in r table) (o .bytes); few = held } in
-      let k : Roomy (x .state) = run-keeps (soupBinTCP deliver) Roomy Bytes bytes-drop step-roomy n st piece p first in
+      let k : Roomy (x .state) = run-keeps stepIn Roomy Bytes bytes-drop step-roomy n st piece p first in
       let room : 0 + length (heldIn (x .state)) ≤ length places = omega (arith, k .few, places-long) in
       record {
         head = state-head (x .state) (length (heldIn (x .state))) (k .fits) (k .few);
         some = state-some (x .state) (k .fits);
         long = overlay-length places 0 (heldIn (x .state)) room ∙ places-long;
         holds = front-of (heldIn (x .state)) room;
-        why = by (run-why (soupBinTCP deliver) n st piece) (k .fits);
-        finished = omega (arith, run-most (soupBinTCP deliver) n st piece, l);
+        why = run-says stepIn (λ st w. StateFits st → WhyFits w) state-why step-why n st piece (k .fits);
+        finished = omega (arith, run-most stepIn n st piece, l);
       }
     where
       front-of : (held : List ℕ) → 0 + length held ≤ length places → take (length held) (overlay places 0 held) ≡ held
       front-of held room = ap (λ (m : ℕ). take m (overlay places 0 held)) (sym (zero-add (length held))) ∙ take-overlay-end places 0 held room
 
-      by : (let x = runOf (soupBinTCP deliver) n st piece in (whyAtCeiling (x .state) ≡ x .why) ⊎ (x .why ≡ ceiling.More))
-          → StateFits (runOf (soupBinTCP deliver) n st piece .state) → WhyFits (runOf (soupBinTCP deliver) n st piece .why)
-      by (inl e) f = subst WhyFits e (state-why (runOf (soupBinTCP deliver) n st piece .state) f)
-      by (inr e) f = subst WhyFits (sym e) tt
-
   pub run-fits : Fits (runAll r table piece n)
   unfolding runAll
   run-fits =
-      both Fits (withinLimits r table)
-      (λ e. both Fits (leb n mostPackets) (λ f. allowed-fits (within r table e) (leb-true n mostPackets f)) (λ _. refused-fits HighCeiling))
+      both Fits (mayStep r table)
+      (λ e. both Fits (leb n mostPackets) (λ f. allowed-fits (may-within r table e) (leb-true n mostPackets f)) (λ _. refused-fits HighCeiling))
       (λ _. refused-fits Unfit)
 
 -- ---- THE THEOREMS, of any handle that is bytes
@@ -237,7 +252,7 @@ module _ (handle : List ℕ) (table : Memories) (piece handle′ : List ℕ) (ta
 
   -- THE STATE
   pub state-ran : stateOf (readerIn handle′) table′ ≡ x .run .state
-  state-ran = (λ i. stateOf (reader-ran i) (ran i .table)) ∙ state-back (x .run .state) (x .used) laid (fitting .some) (fitting .holds)
+  state-ran = (λ i. stateOf (reader-ran i) (ran i .memory)) ∙ state-back (x .run .state) (x .used) laid (fitting .some) (fitting .holds)
 
   -- how many bytes are held
   pub used-ran : readerIn handle′ .used ≡ x .used
@@ -256,39 +271,34 @@ runs-on handle table piece handle′ table′ n a b p h is = state-ran handle ta
 
 -- ---- THE WAYS THROUGH A RUN
 
-module _ (handle : List ℕ) (table : Memories) (piece : List ℕ) (n : ℕ) (lent : Lent handle) {b : Bool} (e : b ≡ hostWithin handle table) where
+module _ (handle : List ℕ) (table : Memories) (piece : List ℕ) (n : ℕ) (lent : Lent handle) where
   -- refused, and all is left
   stands : (q : Refusal) (k : ℕ) → k ≡ ranNumber (refusedRun q (readerIn handle) table .run) → isHandle handle ≡ true
       → left k handle table ≡ ranTo (refusedRun q (readerIn handle) table) (placesIn handle)
   stands q k f is = ap (λ (m : ℕ). left m handle table) f ∙ left-as-held handle table is lent (ranNumber (refusedRun q (readerIn handle) table .run))
 
-  pub run-unfit : not b ≡ true → HostRuns handle table piece n 2068 handle table
-  unfolding runHost runAll hostWithin whyNumber
+  pub run-unfit : hostMayStep handle table ≡ false → HostRuns handle table piece n 2068 handle table
+  unfolding runHost runAll whyNumber
   run-unfit f =
       both (λ (y : Left). left 2068 handle table ≡ y) (isHandle handle)
       (λ is.
-      let none : withinLimits (readerIn handle) table ≡ false = rw is at (not-call b (hostWithin handle table) e f) in
-      let whole : refusedRun Unfit (readerIn handle) table ≡ runAll (readerIn handle) table piece n = rw none in
+      let whole : refusedRun Unfit (readerIn handle) table ≡ runAll (readerIn handle) table piece n = rw (may-not handle table is f) in
       stands Unfit 2068 refl is ∙ ap (λ (y : SeenRun). ranTo y (placesIn handle)) whole)
       (λ _. refl)
 
-  module _ (f : not b ≡ false) where
-    is-within : hostWithin handle table ≡ true
-    is-within = not-not-call b (hostWithin handle table) e f
-
+  module _ (f : hostMayStep handle table ≡ true) where
     is : isHandle handle ≡ true
-    unfolding hostWithin
-    is = and-both (isHandle handle) (withinLimits (readerIn handle) table) is-within .0
+    is = may-handle handle table f
 
     pub run-high : mostPackets < n → HostRuns handle table piece n 2075 handle table
     unfolding runHost runAll whyNumber
-    run-high l = stands HighCeiling 2075 refl is ∙ (rw (is, keeps-limits handle table is-within, lt-leb n mostPackets l))
+    run-high l = stands HighCeiling 2075 refl is ∙ (rw (is, may-step handle table f, lt-leb n mostPackets l))
 
     pub run-allowed : n ≤ mostPackets → {a : ℕ} {handle′ : List ℕ} {table′ : Memories}
-        → left a handle′ table′ ≡ ranTo (seenRun (runOf (soupBinTCP deliver) n (stateOf (readerIn handle) table) piece)) (placesIn handle)
+        → left a handle′ table′ ≡ ranTo (seenRun (runBy stepIn n (stateOf (readerIn handle) table) piece)) (placesIn handle)
         → HostRuns handle table piece n a handle′ table′
     unfolding runHost runAll
-    run-allowed l h = h ∙ (rw (is, keeps-limits handle table is-within, le-leb n mostPackets l))
+    run-allowed l h = h ∙ (rw (is, may-step handle table f, le-leb n mostPackets l))
 
 -- ---- THE RUN BY VALUE, on bytes of its own
 

@@ -15,14 +15,14 @@ use Rattle.field.proofs.Numbers.{Lent, lent-bytes, part-bytes}
 use Rattle.packet.specs.Frame.{Framed, short, badLength, packet, frame, frontOf, heldSize, roomFor}
 use Rattle.packet.specs.Refusals.{faultNumber}
 use Rattle.packet.specs.Stream as stream
-use Rattle.packet.specs.Stream.{accept, finish, refuse, live, stepJudged, stepOf}
+use Rattle.packet.specs.Stream.{State, accept, finish, refuse, live, stepJudged, stepOf}
 use Rattle.packet.specs.Session.{Session, Event, soupBinTCP}
 use Rattle.packet.specs.declared.Fault.the-variants.{BadLength}
 use Rattle.packet.specs.declared.Framing.{Framing}
 use Rattle.packet.specs.declared.Framing.the-variants as front
 use Rattle.packet.proofs.Frame.{short-fits, short-there, bad-there, whole-there}
 use Rattle.packet.proofs.Bytes.{bytes-append}
-use Rattle.packet.proofs.Rules.{and-both, not-call, not-not-call, never}
+use Rattle.packet.proofs.Rules.{both, and-both, not-call, not-not-call, never}
 use Rattle.packet.proofs.Seen as found
 use Rattle.packet.proofs.Seen.{step-short}
 use Rattle.packet.proofs.Mend.{Copied, copied, lies-short, lies-bad, lies-whole, lies-joined, mend-short, mend-bad, mend-whole, joined-step, joined-past}
@@ -38,11 +38,11 @@ use Rattle.table.specs.Memory.{Memories}
 use Rattle.reader.specs.Refusals.{refusalNumber, named}
 use Rattle.reader.specs.Deliver.{Table, Said, deliver}
 use Rattle.reader.specs.View.{Seen, seen, stateOf, memoryIn}
-use Rattle.reader.specs.Limits.{withinLimits}
-use Rattle.reader.specs.Calls.{unfit, stepAll, placesBy, placesAfter}
-use Rattle.reader.specs.Handles.{readerIn, hostWithin, headIn, Left, left, toldNumber, toldMemory, goneTo, turnedAs, movedBy, hostStepped, stepHost, HostSteps}
-use Rattle.reader.specs.Shapes.{Going, Ready, Holding, livesOn, stoppedNumber, sessionAt, closedAs, stepOn, goneOn}
-use Rattle.reader.proofs.Kept.{Within, within, named-number, step-refused, step-ended}
+use Rattle.reader.specs.Limits.{mayStep}
+use Rattle.reader.specs.Calls.{isUnfit, unlessUnfit, stepIn, unfit, stepAll, placesBy, placesAfter}
+use Rattle.reader.specs.Handles.{readerIn, hostMayStep, headIn, Left, left, toldNumber, toldMemory, goneTo, turnedAs, movedBy, hostStepped, stepHost, HostSteps}
+use Rattle.reader.specs.Shapes.{Going, Ready, Holding, livesOn, stoppedNumber, sessionAt, closedAs, stepOn, goneOn, heededOn}
+use Rattle.reader.proofs.Kept.{Within, may-within, may-index, named-number, step-refused, step-ended}
 use Rattle.reader.proofs.Views.{head-in, memory-in}
 use Rattle.reader.proofs.Delivered.{own-ten, own-long, own}
 
@@ -64,19 +64,34 @@ count a n = omega arith
 closed-counts : (handle piece : List ℕ) (used n : ℕ) (v : stream.Verdict (Session Table) (Event Said)) {r : ℕ} {handle′ : List ℕ} {table′ : Memories}
     → left r handle′ table′ ≡ closedAs v handle
     → left (r + n * 65_536) handle′ table′ ≡ goneWith (placesIn handle) used piece (stepJudged n v)
-closed-counts handle piece used n v e = ap (λ (s : Left). left (s .number + n * 65_536) (s .handle) (s .table)) e ∙ by v
+closed-counts handle piece used n v e = ap (λ (s : Left). left (s .number + n * 65_536) (s .handle) (s .memory)) e ∙ by v
   where
     by : (v : stream.Verdict (Session Table) (Event Said))
-        → (let s = closedAs v handle in left (s .number + n * 65_536) (s .handle) (s .table)) ≡ goneWith (placesIn handle) used piece (stepJudged n v)
+        → (let s = closedAs v handle in left (s .number + n * 65_536) (s .handle) (s .memory)) ≡ goneWith (placesIn handle) used piece (stepJudged n v)
     by (accept x s) =
         let g = goneWith (placesIn handle) used piece (stepJudged n (accept x s)) in
-        ap (λ (k : ℕ). left k (g .handle) (g .table)) (count (toldNumber (stream.Event x)) n)
+        ap (λ (k : ℕ). left k (g .handle) (g .memory)) (count (toldNumber (stream.Event x)) n)
     by (finish x s) =
         let g = goneWith (placesIn handle) used piece (stepJudged n (finish x s)) in
-        ap (λ (k : ℕ). left k (g .handle) (g .table)) (count (toldNumber (stream.Event x)) n)
+        ap (λ (k : ℕ). left k (g .handle) (g .memory)) (count (toldNumber (stream.Event x)) n)
     by (refuse k s) =
         let g = goneWith (placesIn handle) used piece (stepJudged n (refuse k s)) in
-        ap (λ (k : ℕ). left k (g .handle) (g .table)) (count (toldNumber (stream.Refused k)) n)
+        ap (λ (k : ℕ). left k (g .handle) (g .memory)) (count (toldNumber (stream.Refused k)) n)
+
+-- a refusal tells nothing, so that heeding the index changes nothing that is told
+unfit-untold : (a : stream.Answer (Event Said)) → isUnfit a ≡ true → (m : List ℕ) → toldMemory a m ≡ m
+unfolding toldMemory
+unfit-untold (stream.Event e) h m = absurd (never h)
+unfit-untold stream.More h m = refl
+unfit-untold stream.Ended h m = refl
+unfit-untold (stream.Refused n) h m = refl
+
+told-heeded : (st : State (Session Table)) (x : stream.Stepped (Session Table) (Event Said)) (m : List ℕ)
+    → toldMemory (x .answer) m ≡ toldMemory (unlessUnfit st x .answer) m
+unfolding toldMemory
+told-heeded st x m =
+    both (λ (y : stream.Stepped (Session Table) (Event Said)). toldMemory (x .answer) m ≡ toldMemory (y .answer) m) (isUnfit (x .answer))
+    (λ e. unfit-untold (x .answer) e m) (λ _. refl)
 
 -- ---- nothing is held
 
@@ -192,8 +207,8 @@ module _ (held piece : List ℕ) (used n : ℕ) (all : List ℕ) (c : Copied hel
   mended-as e =
       let a : ℕ = toldNumber (lain .answer) in
       let fewer-taken : (a + lain .taken * 65_536) - used * 65_536 ≡ a + (lain .taken - used) * 65_536 = omega (arith, held-first) in
-      ap (λ (x : Left). left (x .number - used * 65_536) (x .handle) (x .table)) e
-      ∙ (λ i. left (fewer-taken i) (handleBytes (headIn (lain .state) (seen lain .used)) (places-same i)) (goneWith held 0 bytes lain .table))
+      ap (λ (x : Left). left (x .number - used * 65_536) (x .handle) (x .memory)) e
+      ∙ (λ i. left (fewer-taken i) (handleBytes (headIn (lain .state) (seen lain .used)) (places-same i)) (goneWith held 0 bytes lain .memory))
       ∙ ap (λ (y : stream.Stepped (Session Table) (Event Said)). turnedAs (goneTo (seen y) (placesAfter held used piece (seen cut))))
       (sym (joined-step held used piece n all c (soupBinTCP deliver) s))
 
@@ -293,9 +308,13 @@ module _ (handle : List ℕ) (table : Memories) (g : Holding handle table) (lent
 
 -- ---- any handle
 
-pub within-handle : (handle : List ℕ) (table : Memories) → hostWithin handle table ≡ true → isHandle handle ≡ true
-unfolding hostWithin
-within-handle handle table w = and-both (isHandle handle) (withinLimits (readerIn handle) table) w .0
+pub may-handle : (handle : List ℕ) (table : Memories) → hostMayStep handle table ≡ true → isHandle handle ≡ true
+unfolding hostMayStep
+may-handle handle table w = and-both (isHandle handle) (mayStep (readerIn handle) table) w .0
+
+pub may-step : (handle : List ℕ) (table : Memories) → hostMayStep handle table ≡ true → mayStep (readerIn handle) table ≡ true
+unfolding hostMayStep
+may-step handle table w = and-both (isHandle handle) (mayStep (readerIn handle) table) w .1
 
 -- has it neither refused nor ended?
 module _ (h : Head) where
@@ -328,16 +347,15 @@ module _ (handle : List ℕ) (table : Memories) (piece : List ℕ) where
         let r = readerIn handle in
         (λ i. left n ((own handle is lent ∙ ap (λ (x : Head). handleBytes x (placesIn handle)) (sym (head-in r table))) i) (sym (memory-in r table) i))
 
-    module _ (w : hostWithin handle table ≡ true) where
+    module _ (w : hostMayStep handle table ≡ true) where
       is-handle : isHandle handle ≡ true
-      is-handle = within-handle handle table w
+      is-handle = may-handle handle table w
 
-      keeps : withinLimits (readerIn handle) table ≡ true
-      unfolding hostWithin
-      keeps = and-both (isHandle handle) (withinLimits (readerIn handle) table) w .1
+      keeps : mayStep (readerIn handle) table ≡ true
+      keeps = may-step handle table w
 
-      within-here : Within (readerIn handle) table
-      within-here = within (readerIn handle) table keeps
+      within-here : Within (readerIn handle) (table .table)
+      within-here = may-within (readerIn handle) table keeps
 
       abbrev h₁ : Head
       h₁ = headOf handle
@@ -394,7 +412,7 @@ module _ (handle : List ℕ) (table : Memories) (piece : List ℕ) where
                 unrefused = lives .0;
                 some = within-here .some;
                 most = within-here .most;
-                fitting = rows-fitting (h₁ .board .rows) table (within-here .fitted);
+                fitting = (rows-fitting (h₁ .board .rows) (table .table) (within-here .fitted), may-index (readerIn handle) table keeps);
               }
 
           pub turned-ready : {used : ℕ} → used ≡ h₁ .used → used ≡ 0 → Ready handle table
@@ -403,17 +421,20 @@ module _ (handle : List ℕ) (table : Memories) (piece : List ℕ) where
           pub turned-holding : Holding handle table
           turned-holding = record { going = turned-going; start = within-here .start; short = within-here .short }
 
-          goes : stepAll (readerIn handle) table piece ≡ seen (stepOn handle table piece)
+          goes : stepAll (readerIn handle) table piece ≡ seen (stepIn (live (sessionAt handle table) (take (h₁ .used) (placesIn handle))) piece)
           unfolding stepAll
           goes = rw (keeps, lives .1) (simp (eq-eqb (h₁ .refusal) 0 (lives .0)))
 
-          pub turned-live : {a : ℕ} {handle′ : List ℕ} {table′ : Memories} → left a handle′ table′ ≡ goneOn handle table piece
+          pub turned-live : {a : ℕ} {handle′ : List ℕ} {table′ : Memories} → left a handle′ table′ ≡ heededOn handle table piece
               → left a handle′ table′ ≡ turnedAs (movedBy handle table piece)
           turned-live k = k ∙ gone-moved (sym goes)
 
-          pub answers : stepOn handle table piece .answer ≡ movedBy handle table piece .answer
-          unfolding movedBy
-          answers = ap (λ (x : Seen). x .step .answer) (sym goes)
+          -- what is told of a step is what is told of it once its index is heeded
+          pub answers : (m : List ℕ) → toldMemory (stepOn handle table piece .answer) m ≡ toldMemory (movedBy handle table piece .answer) m
+          unfolding movedBy stepIn
+          answers m =
+              told-heeded (live (sessionAt handle table) (take (h₁ .used) (placesIn handle))) (stepOn handle table piece) m
+              ∙ ap (λ (x : Seen). toldMemory (x .step .answer) m) (sym goes)
 
   -- ---- with event memory
 
@@ -432,11 +453,10 @@ module _ (handle : List ℕ) (table : Memories) (piece : List ℕ) where
           → event′ ≡ toldMemory (movedBy handle table piece .answer) event → HostSteps handle table piece event a handle′ table′ event′
       unfolding stepHost
       steps-told e f =
-          (λ i. hostStepped (e i .number) (e i .handle) (e i .table) (f i)) ∙ (rw (eq-eqb (length event) recordSize l, is))
+          (λ i. hostStepped (e i .number) (e i .handle) (e i .memory) (f i)) ∙ (rw (eq-eqb (length event) recordSize l, is))
 
-      pub step-unfit : Lent handle → {b : Bool} → b ≡ hostWithin handle table → not b ≡ true → HostSteps handle table piece event 2068 handle table event
-      unfolding toldNumber toldMemory hostWithin stepAll movedBy
-      step-unfit lent {b} e f =
-          let none : withinLimits (readerIn handle) table ≡ false = rw is at (not-call b (hostWithin handle table) e f) in
+      pub step-unfit : Lent handle → mayStep (readerIn handle) table ≡ false → HostSteps handle table piece event 2068 handle table event
+      unfolding toldNumber toldMemory stepAll movedBy
+      step-unfit lent none =
           let s : unfit (readerIn handle) table ≡ stepAll (readerIn handle) table piece = rw none in
           steps-told (still lent is 2068 ∙ gone-moved s) (ap (λ (x : Seen). toldMemory (x .step .answer) event) s)

@@ -13,6 +13,7 @@ use Rattle.field.proofs.Parts.{part-length, part-whole, overlay-whole}
 use Rattle.packet.specs.Stream.{State, live, ended, refused}
 use Rattle.packet.specs.Session.{Session}
 use Rattle.packet.specs.Frame.{heldSize}
+use Rattle.table.specs.Memory.{Memories}
 use Rattle.handle.specs.Handle.{headSize, handleSize, headOf, headBytes, handleBytes, placesIn}
 use Rattle.handle.specs.declared.Head.{Head}
 use Rattle.handle.proofs.Rounds.{HeadFits}
@@ -24,7 +25,7 @@ use Rattle.reader.specs.declared.Reader.{Reader}
 
 -- ---- a reader's state has its head, its table memory and what it holds
 
-module _ (r : Reader) (memory : List ℕ) where
+module _ (r : Reader) (memory : Memories) where
   abbrev stateBy : Bool → Bool → State (Session Table)
   stateBy none end =
       let s = sessionOf (r .line) (r .board) memory in

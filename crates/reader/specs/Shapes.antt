@@ -23,7 +23,7 @@ use Rattle.handle.specs.Handle.{handleSize, isHandle, headOf, handleBytes, plac
 use Rattle.handle.specs.declared.Head.{Head}
 use Rattle.reader.specs.Deliver.{Table, Said, deliver, tableBy}
 use Rattle.reader.specs.View.{sessionOf, noText, answerOf, answerTexts, seen}
-use Rattle.reader.specs.Calls.{placesAfter, verdictNumber}
+use Rattle.reader.specs.Calls.{stepIn, placesAfter, verdictNumber}
 use Rattle.reader.specs.Handles.{Left, left, loginBytes, takenIn, kindIn, goneTo, turnedAs}
 use Rattle.reader.specs.declared.StepAnswer.{StepAnswer}
 use Rattle.reader.specs.declared.Texts.{Texts}
@@ -76,6 +76,12 @@ stepOn handle memory piece = stepOf (soupBinTCP deliver) (live (sessionAt handle
 abbrev pub goneOn : List ℕ → Memories → List ℕ → Left
 goneOn handle memory piece =
     let x = seen (stepOn handle memory piece) in
+    turnedAs (goneTo x (placesAfter (placesIn handle) (headOf handle .used) piece x))
+
+-- and with its index heeded
+abbrev pub heededOn : List ℕ → Memories → List ℕ → Left
+heededOn handle memory piece =
+    let x = seen (stepIn (live (sessionAt handle memory) (take (headOf handle .used) (placesIn handle))) piece) in
     turnedAs (goneTo x (placesAfter (placesIn handle) (headOf handle .used) piece x))
 
 -- the number of a step says that its index led astray; then no refusal stands, and so many bytes are held

@@ -19,7 +19,7 @@ ghost use Rattle.handle.specs.Handle.{handleSize, headOf, handleBytes};
 ghost use Rattle.reader.specs.View.{noText, readerWith, headPart, readyOf};
 ghost use Rattle.reader.specs.Calls.{Stepping, Starting};
 ghost use Rattle.reader.specs.Handles.{readerIn, hostWithin, hostMayStep, left, toldMemory, turnedAs, movedBy, HostSteps, GoesOn};
-ghost use Rattle.reader.specs.Shapes.{Ready, Holding, livesOn, stoppedNumber, stepOn, goneOn, isAstray, heldAgain};
+ghost use Rattle.reader.specs.Shapes.{Ready, Holding, livesOn, stoppedNumber, stepOn, goneOn, heededOn, isAstray, heldAgain};
 ghost use Rattle.reader.specs.Running.{HostRuns, RunsOn, Running};
 ghost use Rattle.reader.specs.Saving.{lineOf, Saves, Restores};
 
@@ -185,7 +185,7 @@ fn mended(
     event: &mut [u8],
 ) -> u32
     requires { ⌜ Holding (now handle) (memories (now table) (now index)) × ((rows ≡ headOf (now handle) .board .rows) × ((used ≡ headOf (now handle) .used) × (length (now event) ≡ recordSize))) ⌝ }
-    ensures { λ r. ⌜ left r (now (handle .exit)) (memories (now (table .exit)) (now (index .exit))) ≡ goneOn (now (handle .entry)) (memories (now (table .entry)) (now (index .entry))) (now (piece .entry)) ⌝ }
+    ensures { λ r. ⌜ left r (now (handle .exit)) (memories (now (table .exit)) (now (index .exit))) ≡ heededOn (now (handle .entry)) (memories (now (table .entry)) (now (index .entry))) (now (piece .entry)) ⌝ }
     ensures { λ _. ⌜ now (event .exit) ≡ toldMemory (stepOn (now (handle .entry)) (memories (now (table .entry)) (now (index .entry))) (now (piece .entry)) .answer) (now (event .entry)) ⌝ }
 {
     let n = packet::room(used, piece.len());

@@ -2,6 +2,15 @@ pub mod Search
 pub mod IndexHalves
 pub mod IndexWays
 pub mod IndexPlaces
+pub mod IndexTruth
+pub mod IndexKept
+pub mod IndexOnce
+pub mod IndexExamples
 pub mod Ways
 pub mod Wired
 pub mod Rows
+pub mod Exactly
+pub mod Quotes
+pub mod Truth
+pub mod Kept
+pub mod Answers
