@@ -39,7 +39,7 @@ use Rattle.handle.specs.declared.Head.{Head}
 use Rattle.handle.proofs.Rounds.{handle-length, head-fits}
 use Rattle.handle.proofs.Laid.{laid-head}
 use Rattle.table.specs.Memory.{Memories}
-use Rattle.reader.specs.Deliver.{Table, tableOf, Said, said, settledBy, heard, deliver}
+use Rattle.reader.specs.Deliver.{Table, tableBy, Said, said, settledBy, heard, deliver}
 use Rattle.reader.specs.View.{seen, sessionIn, heldIn}
 use Rattle.reader.specs.Calls.{placesAfter}
 use Rattle.reader.specs.Handles.{headIn, Left, left, loginBytes, eventNumber, toldNumber, eventMemory, toldMemory, takenIn}
@@ -93,7 +93,7 @@ module _ (l : Line) (t : Table) (body : List ℕ) where
   heard-tells (read.Is m) e =
       let texts : Texts = readOf body .texts in
       let o = applyOf (t .board) m texts (t .memory) in
-      settled-tells (said m texts) (o .applied .verdict) (tableOf (o .applied .board) (o .memory)) (λ i. record { answer = e i; texts = texts })
+      settled-tells (said m texts) (o .outcome .applied .verdict) (tableBy o) (λ i. record { answer = e i; texts = texts })
 
   deliver-tells : VerdictTells body (delivered l (deliver t body))
   unfolding deliver
@@ -260,7 +260,7 @@ module _ (handle : List ℕ) (table : Memories) (piece event : List ℕ) (g : Re
       own-session : SessionFits (sessionAt handle table)
       own-session =
           let f = head-fits handle (handle-length handle (g .going .handle-is)) own in
-          record { ten = f .session; some = g .going .some; most = g .going .most; board = record { rows = g .going .fitting .1; live = f .live; event = f .event } }
+          record { ten = f .session; some = g .going .some; most = g .going .most; board = record { rows = g .going .fitting .0 .1; live = f .live; event = f .event } }
 
       by : (f : Framed) → frame piece ≡ f → Told
       by short f =

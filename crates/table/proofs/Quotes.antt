@@ -34,7 +34,7 @@ use Rattle.row.specs.declared.Quote.{Quote}
 use Rattle.row.proofs.Kept.{PricesIn}
 use Rattle.row.proofs.Exactly.{same-size, quote-fitting}
 use Rattle.row.proofs.Quoted.{Stands, unquoted-clash, put-price, quote-numbers}
-use Rattle.table.specs.Memory.{Fitting, Memories, row, withRow, Found, At, Nothing}
+use Rattle.table.specs.Memory.{Fitting, Memories, row, withRow, Found, At}
 use Rattle.table.specs.Index.{sought, foundOf}
 use Rattle.table.specs.Board.{Outcome, accepted, refused, quoteAt, ofShortQuote, ofLongQuote, ofShortSide, ofLongSide, lookFor, look, effectAt, applyOf}
 use Rattle.table.specs.Places.{quotedIn}

@@ -5,7 +5,7 @@ use mathlib.Core.Bool.{Bool, true, false, cond}
 use mathlib.Core.List.{List}
 use Prim.Native.Nat.{ℕ, _+_, _*_, _≤_, _<_}
 use native.Mathlib.Omega.{arith}
-use borrow.Author.Tests.{leb-false, lt-ltb, le-ltb, eqb-true, eqb-false}
+use borrow.Author.Tests.{leb-false, lt-ltb, le-ltb, eqb-true}
 use lib.Dec.{leb, ltb}
 use lib.ListN.{length, replicate}
 use Rattle.field.proofs.Bools.{both-right}
@@ -25,20 +25,20 @@ use Rattle.row.proofs.Exactly.{same-size, quote-fitting, action-fitting, direct
 use Rattle.table.specs.Memory.{mostRows, tableSize, isTable, Memories, memories, row, withRow, At, Nothing}
 use Rattle.table.specs.Index.{indexSize, isIndex, isLent, lentFit, sought, foundOf, entered}
 use Rattle.table.specs.Sorted.{Sorted}
-use Rattle.table.specs.Board.{Outcome, accepted, refused, Indexed, beside, refusedBeside, freshBoard, oneMore, startOf, directoryAt, actionAt, quoteAt, ofShortQuote, ofLongQuote, ofShortSide, ofLongSide, Wanted, anId, noId, wantedBy, lookFor, look, effectAt, entering, effectBy, effect, applyOf, walkFor, walkedEffect}
+use Rattle.table.specs.Board.{Outcome, accepted, refused, beside, refusedBeside, freshBoard, oneMore, startOf, directoryAt, actionAt, quoteAt, ofShortQuote, ofLongQuote, ofShortSide, ofLongSide, Wanted, anId, noId, wantedBy, lookFor, look, effectAt, entering, effectBy, effect, applyOf, walkFor, walkedEffect}
 use Rattle.table.specs.declared.index.Sought.{Sought}
 use Rattle.table.specs.declared.index.Sought.the-variants.{Here, Absent, Astray}
 use Rattle.table.specs.declared.Board.{Board}
-use Rattle.table.specs.declared.Refusal.the-variants.{Unfit, NoQuotes, FixedField, TableFull}
+use Rattle.table.specs.declared.Refusal.the-variants.{Unfit, TableFull}
 use Rattle.table.specs.declared.Verdict.{Verdict}
 use Rattle.table.specs.declared.Verdict.the-variants.{Accepted, Refused}
 use Rattle.table.proofs.Search.{Has}
 use Rattle.table.proofs.Ways.{fitting-lent}
 use Rattle.table.proofs.Rows.{row-length}
 use Rattle.table.proofs.IndexPlaces.{here-has}
-use Rattle.table.proofs.IndexTruth.{same-as-walk, sought-in-use}
+use Rattle.table.proofs.IndexTruth.{same-as-walk, sought-never-astray}
 use Rattle.table.proofs.IndexKept.{clear-sorted, add-sorted, change-sorted}
-use Rattle.table.proofs.Exactly.{none, LeftBy, apply-leaves}
+use Rattle.table.proofs.Exactly.{none, either-way, LeftBy, apply-leaves}
 
 -- ---- THE ANSWER EQUALS THE OLD WALK'S
 
@@ -51,10 +51,10 @@ module _ (b : Board) (l : Memories) (s : Sorted (b .rows) (l .index) (l .table))
   wanted-walks (anId id) = sym (same-as-walk (b .rows) (l .index) (l .table) s id)
   wanted-walks noId = refl
 
-  wanted-in-use : (w : Wanted) → lookFor w b l ≡ Astray → ⊥
+  wanted-never-astray : (w : Wanted) → lookFor w b l ≡ Astray → ⊥
   unfolding lookFor
-  wanted-in-use (anId id) e = sought-in-use (b .rows) (l .index) (l .table) s id e
-  wanted-in-use noId e = no-place-astray e
+  wanted-never-astray (anId id) e = sought-never-astray (b .rows) (l .index) (l .table) s id e
+  wanted-never-astray noId e = no-place-astray e
 
 -- the row for a message is the one that the walk finds
 pub look-walks : (b : Board) (m : Message) (l : Memories) → Sorted (b .rows) (l .index) (l .table) → foundOf (look b m l) ≡ walkFor (wantedBy m) b (l .table)
@@ -62,7 +62,7 @@ look-walks b m l s = wanted-walks b l s (wantedBy m)
 
 -- no place that is visited names a row that is not in use
 pub never-astray : (b : Board) (m : Message) (l : Memories) → Sorted (b .rows) (l .index) (l .table) → look b m l ≡ Astray → ⊥
-never-astray b m l s e = wanted-in-use b l s (wantedBy m) e
+never-astray b m l s e = wanted-never-astray b l s (wantedBy m) e
 
 sought-walks : (b : Board) (m : Message) (t : Texts) (l : Memories) → Sorted (b .rows) (l .index) (l .table) → (a : Sought) → look b m l ≡ a
     → effectBy b m t l a .outcome ≡ walkedEffect b m t (l .table)
@@ -75,6 +75,11 @@ sought-walks b m t l s Astray e = absurd (never-astray b m l s e)
 pub effect-walks : (b : Board) (m : Message) (t : Texts) (l : Memories) → Sorted (b .rows) (l .index) (l .table) → effect b m t l .outcome ≡ walkedEffect b m t (l .table)
 unfolding effect
 effect-walks b m t l s = sought-walks b m t l s (look b m l) refl
+
+pub apply-walks : (b : Board) (m : Message) (t : Texts) (l : Memories) → Sorted (b .rows) (l .index) (l .table) → length (l .table) ≡ tableSize
+    → applyOf b m t l .outcome ≡ walkedEffect b m t (l .table)
+unfolding applyOf
+apply-walks b m t l s long = rw (fitting-lent (b .rows) l ((long, s .few), s .sized)) (effect-walks b m t l s)
 
 -- a true index never gives 20
 pub apply-fits : (b : Board) (m : Message) (t : Texts) (l : Memories) → Sorted (b .rows) (l .index) (l .table) → length (l .table) ≡ tableSize
@@ -98,10 +103,6 @@ module _ (b : Board) (mem ix : List ℕ) (s : Sorted (b .rows) ix mem) (sized : 
   row-long : (k : ℕ) → k < b .rows → length (row k mem) ≡ rowSize
   row-long k h = row-length k mem (omega (arith, long))
 
-  either : (y : Bool) (o o′ : Outcome) → Stays ix o → Stays ix o′ → Stays ix (cond y o o′)
-  either true o o′ g h = g
-  either false o o′ g h = h
-
   -- a row in use is changed, and has the id that it had
   changes : (k : ℕ) (r : List ℕ) → k < b .rows → length r ≡ rowSize → idOf r ≡ idOf (row k mem) → Stays ix (accepted b (withRow k r mem))
   changes k r h e i = change-sorted (b .rows) ix mem r k s h long e i
@@ -111,7 +112,7 @@ module _ (b : Board) (mem ix : List ℕ) (s : Sorted (b .rows) ix mem) (sized : 
   quote-stays q k h =
       let r : List ℕ = row k mem in
       let x : List ℕ = changed (quoteChanges q r) r in
-      either (takesQuote r) (accepted b (withRow k x mem)) (refused NoQuotes b mem)
+      either-way (Stays ix) (takesQuote r)
       (changes k x h (same-size (quote-fitting q r) r (row-long k h)) (quote-id r (row-long k h) q))
       s
 
@@ -129,7 +130,7 @@ module _ (b : Board) (mem ix : List ℕ) (s : Sorted (b .rows) ix mem) (sized : 
         let r : List ℕ = row k mem in
         let x : List ℕ = changed (directoryChanges d t) r in
         let l : length r ≡ rowSize = row-long k (h .below) in
-        either (unchanged (d .instrument) t r) (accepted b (withRow k x mem)) (refused FixedField b mem)
+        either-way (Stays ix) (unchanged (d .instrument) t r)
         (changes k x (h .below) (same-size (directory-fitting d t fit) r l) (directory-id d t fit r l ∙ sym (h .has)))
         s
 

@@ -32,7 +32,7 @@ use Rattle.row.specs.Wire.{sidesIn, actionIn, instrumentIn, directoryIn, textsI
 use Rattle.table.specs.Memory.{mostRows, tableSize, Memories, memories, row, withRow, Found, At, Nothing}
 use Rattle.table.specs.Index.{sought}
 use Rattle.table.specs.Board as board
-use Rattle.table.specs.Board.{Outcome, Indexed, beside, withEvent, withLive, Wanted, anId, wantedBy, lookFor, look, effectAt, entering, effectBy, effect, directoryAt, actionAt, quoteAt}
+use Rattle.table.specs.Board.{Outcome, Indexed, beside, withEvent, withLive, anId, wantedBy, lookFor, effectAt, entering, effectBy, effect, directoryAt, actionAt, quoteAt}
 use Rattle.table.specs.Wire.{placed, indexBy, Rowed, Placeable, effectIn, AtRow, AtNone}
 use Rattle.table.specs.declared.index.Sought.{Sought}
 use Rattle.table.specs.declared.index.Sought.the-variants.{Here, Absent, Astray}
