@@ -3,7 +3,7 @@
 use mathlib.Core.Path.{_≡_, refl, sym, ap, _∙_}
 use mathlib.Core.Bool.{Bool, true, false, cond}
 use mathlib.Core.List.{List, []}
-use Prim.Native.Nat.{ℕ, _+_, _*_, _≤_}
+use Prim.Native.Nat.{ℕ, _+_, _*_, _%_, _≤_}
 use native.Mathlib.Decide.{ℕ-discrete}
 use native.Mathlib.Omega.{arith}
 use borrow.Author.Tests.{eqb-true, eq-eqb, ne-eqb}
@@ -146,3 +146,9 @@ module _ (handle : List ℕ) (memory : Memories) (g : Going handle memory) (star
             (λ i. left ((rw n at f) i) ((rw n at k) i) (same-memory y i))
             ∙ ap (λ (b : List ℕ). left 2068 b memory) (undone y used)
             ∙ ap (λ (m : ℕ). left 2068 (handleBytes (headHeld 0 m) places) memory) (u ∙ sym held-length)
+
+    -- a number that is a message's is not astray
+    pub unheeded : a % 65_536 ≡ 768 → left a handle₁ memory₁ ≡ heededOn handle memory piece
+    unheeded m =
+        let n : isAstray a ≡ false = ap (λ (k : ℕ). eqb k 2068) m in
+        heeded-as {used = h .used} refl (rw n) (rw n)

@@ -1,31 +1,20 @@
+-- `reader::heeded` meets its contract.
+-- Assumes nothing.
+use mathlib.Core.Path.{ap, _∙_}
 use borrow.Author.Needs.{needs}
+use borrow.Author.Tests.{eq-eqb, ne-eqb}
+use Rattle.handle.specs.Handle.{usedField, withField}
 use Rattle.reader.proofs.heeded.Statement.{statement}
 use Rattle.reader.proofs.heeded.Tie as tie
-use Rattle.reader.proofs.heeded.Reads as reads
-use Rattle.reader.proofs.heeded.Lts as lts
-use Rattle.handle.proofs.put_refusal.Reads as put-refusal-reads
-use Rattle.handle.proofs.put_used.Reads as put-used-reads
 
--- src/lib.rt:170:9
 returns : tie.Need-returns
-returns c = ?
+returns c = (rw (ne-eqb _ 2068 (c .if1 .taken)), rw (ne-eqb _ 2068 (c .if1 .taken)))
 
--- src/lib.rt:172:5
-put-refusal-requires : tie.Need-put-refusal-requires
-put-refusal-requires c κs = search needs
-
--- src/lib.rt:173:5
-put-used-requires : tie.Need-put-used-requires
-put-used-requires c κs = search needs
-
--- src/lib.rt:164:1
-same-length : tie.Need-same-length
-same-length c = search needs
-
--- src/lib.rt:164:1
 returns-2 : tie.Need-returns-2
-returns-2 c = ?
+returns-2 c =
+    let e = eq-eqb _ 2068 (c .before .before .before .before .before .before .before .before .if1 .left) in
+    let start = c .before .before .before .before .before .before .before .before .before .before in
+    (rw e, rw e (c .before .before .put-used .ensures ∙ ap (withField usedField (start .args .used)) (c .before .before .before .before .before .before .put-refusal .ensures)))
 
 pub heeded-spec : {M : Type 1} → statement M
-heeded-spec =
-    tie.close (tie.spec returns put-refusal-requires put-used-requires same-length returns-2)
+heeded-spec = tie.close (tie.spec returns (λ c κs. search needs) (λ c κs. search needs) (λ c. search needs) returns-2)

@@ -10,6 +10,7 @@ use Rattle.field.specs.Bytes.{Bytes}
 use Rattle.packet.specs.Frame.{heldSize}
 use Rattle.record.specs.Places.{recordSize}
 use Rattle.handle.proofs.Rounds.{HeadFits}
+use Rattle.table.specs.Memory.{memories}
 use Rattle.reader.specs.View.{headPart}
 use Rattle.reader.proofs.Back.{by-value}
 use Rattle.reader.proofs.Reader.step.Statement.{statement}
@@ -33,15 +34,11 @@ fits s =
 
 returns : tie.Need-returns
 returns c =
-    let at-back = c .before .before .before in
-    let at-step = at-back .before .before .before .before .before .before in
-    let at-laid = at-step .before .before .before .before in
-    let start = at-laid .before .before .before in
+    let at-laid = c .before .before .before .before .before .before .before .before .before .before .before .before .before .before .before .before in
+    let start = c .before .before .before .before .before .before .before .before .before .before .before .before .before .before .before .before .before .before .before .before in
     let ok = at-laid .laid .ok in
     let bytes : Bytes (at-laid .laid .result) = λ i. elem-fits w8 w8 (at-laid .laid .result) (ok .0) i (ok .1 .1) tt .fits in
-    by-value (start .args .self) (c .read .result) (at-laid .laid .result) (now (start .args .table)) (now (start .args .piece)) _ _ _ _ (at-step .step .result) (at-back .read-back .result) (fits start) (long start) (length-replicate {A = ℕ} recordSize 0) bytes (λ i. at-laid .before .before .shared-slice-known .given i .fits) (at-laid .laid .ensures) (at-step .step .ensures .0) (at-back .read-back .ensures) (c .read .ensures)
+    by-value (start .args .self) (c .read .result) (at-laid .laid .result) (memories (now (start .args .table)) (now (start .args .index))) (now (start .args .piece)) _ _ _ _ (c .before .before .before .before .before .before .before .before .before .before .before .step .result) (c .before .before .before .read-back .result) (fits start) (long start) (length-replicate {A = ℕ} recordSize 0) bytes (λ i. c .before .before .before .before .before .before .before .before .before .before .before .before .before .before .before .before .before .before .before .shared-slice-known .given i .fits) (at-laid .laid .ensures) (c .before .before .before .before .before .before .before .before .before .before .before .step .ensures .0) (c .before .before .before .read-back .ensures) (c .read .ensures)
 
 pub step-spec : {M : Type 1} → statement M
-step-spec =
-    tie.close
-    (tie.spec (λ c κs. search needs) (λ c. search needs) (λ c. search needs) (λ c κs. search needs) (λ c. search needs) (λ c κs. search needs) (λ c. search needs) (λ c κs. search needs) (λ c. search needs) (λ c. search needs) returns)
+step-spec = tie.close (tie.spec (λ c κs. search needs) (λ c. search needs) (λ c. search needs) (λ c κs. search needs) (λ c. search needs) (λ c κs. search needs) (λ c. search needs) (λ c κs. search needs) (λ c. search needs) (λ c. search needs) (λ c. search needs) returns)

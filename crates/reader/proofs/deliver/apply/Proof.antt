@@ -33,9 +33,9 @@ returns-2 : tie.Need-returns-2
 returns-2 c = search (apply-live, needs)
 
 -- the letter is neither S nor M where the message is placed
-not-noted : (j : tie.Joined1) → let bs = now (j .before .before .before .before .before .args .body) in (getD bs 0 0 ≡ 83 → ⊥) × (getD bs 0 0 ≡ 77 → ⊥)
+not-noted : (j : tie.Joined1) → let bs = now (j .before .before .before .before .before .before .args .body) in (getD bs 0 0 ≡ 83 → ⊥) × (getD bs 0 0 ≡ 77 → ⊥)
 not-noted j =
-    let start = j .before .before .before .before .before in
+    let start = j .before .before .before .before .before .before in
     either (j .if1 .came) (λ rare. (rare .1 .left, rare .2 .left))
     (λ quote.
     let some : quoteLength (getD (now (start .args .body)) 0 0) ≡ 0 → ⊥ = λ e. quote .left (start .pre .1 .1 .0 ∙ e) in
@@ -43,11 +43,11 @@ not-noted j =
 
 place-requires : tie.Need-place-requires
 place-requires c κs =
-    let start = c .before .before .before .before .before .before .before in
-    let noted = not-noted (c .before .before) in
+    let start = c .before .before .before .before .before .before .before .before .before in
+    let noted = not-noted (c .before .before .before) in
     (start .pre .0, (start .pre .1 .0, record { passed = start .pre .1 .1 .1 .0; noEvent = noted .0; noEnd = noted .1; fitting = start .pre .1 .1 .1 .1 }))
 
 pub apply-spec : {M : Type 1} → statement M
 apply-spec =
     tie.close
-    (tie.spec shared-slice-read-letter read1-requires put-event-requires (λ c. search needs) returns number-requires put-live-requires (λ c. search needs) returns-2 place-requires (λ c. search needs) (λ c. search needs) (λ c. search needs))
+    (tie.spec shared-slice-read-letter read1-requires put-event-requires (λ c. search needs) returns number-requires put-live-requires (λ c. search needs) returns-2 place-requires (λ c. search needs) (λ c. search needs) (λ c. search needs) (λ c. search needs))

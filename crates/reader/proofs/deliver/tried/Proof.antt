@@ -21,4 +21,4 @@ returns-3 c = search (tried-applied, needs)
 pub tried-spec : {M : Type 1} → statement M
 tried-spec =
     tie.close
-    (tie.spec returns (λ c. search needs) (λ c κs. search needs) (λ c κs. search needs) cast-result returns-2 (λ c κs. search needs) (λ c. search needs) (λ c. search needs) returns-3)
+    (tie.spec returns (λ c. search needs) (λ c κs. search needs) (λ c κs. search needs) cast-result returns-2 (λ c κs. search needs) (λ c. search needs) (λ c. search needs) (λ c. search needs) returns-3)

@@ -6,52 +6,43 @@ use lib.ListN.{length}
 use denote.Ref.{now}
 use Rattle.handle.specs.Handle.{handleSize}
 use Rattle.handle.proofs.Rounds.{handle-length}
+use Rattle.table.specs.Memory.{Memories, memories}
 use Rattle.reader.proofs.Judged.{act-counts, act-message, act-other}
 use Rattle.reader.proofs.packets.act.Statement.{statement}
 use Rattle.reader.proofs.packets.act.Tie as tie
+
+abbrev memory : tie.Start → Memories
+memory s = memories (now (s .args .table)) (now (s .args .index))
 
 size : (s : tie.Start) → length (now (s .args .handle)) ≡ handleSize
 size s = handle-length (now (s .args .handle)) (s .pre .0 .going .handle-is)
 
 next-requires : tie.Need-next-requires
-next-requires c κs = search (needs, size (c .before .before .before .before))
+next-requires c κs = search (needs, size (c .before .before .before .before .before))
 
 logged-requires : tie.Need-logged-requires
-logged-requires c κs = search (needs, size (c .before .before .before .before .before .before))
+logged-requires c κs = search (needs, size (c .before .before .before .before .before .before .before))
 
 message-requires : tie.Need-message-requires
 message-requires c κs =
-    let known = c .before .before .before in
-    let at-logged = known .before in
-    let at-next = at-logged .before .before in
-    let start = at-next .before .before .before .before .before in
-    (start .pre .0, (start .pre .1, (at-next .next .ensures, act-counts (now (start .args .handle)) (now (start .args .table)) (start .pre .0) (start .args .letter) (now (start .args .body)) (at-next .next .ensures) (at-logged .logged .ensures) (known .is-message .ensures) (c .before .before .if1 .taken))))
+    let start = c .before .before .before .before .before .before .before .before .before .before .before .before .before in
+    let at-next = c .before .before .before .before .before .before .before in
+    (start .pre .0, (start .pre .1, (at-next .next .ensures, act-counts (now (start .args .handle)) (memory start) (start .pre .0) (start .args .letter) (now (start .args .body)) (at-next .next .ensures) (c .before .before .before .before .before .logged .ensures) (c .before .before .before .before .is-message .ensures) (c .before .before .before .if1 .taken))))
 
 returns : tie.Need-returns
 returns c =
-    let known = c .before .before .before .before .before .before .before .before in
-    let at-logged = known .before in
-    let at-next = at-logged .before .before in
-    let start = at-next .before .before .before .before .before in
-    (act-message (now (start .args .handle)) (now (start .args .table)) (start .pre .0) (start .args .letter) (now (start .args .body)) (at-next .next .ensures) (at-logged .logged .ensures) (known .is-message .ensures) (c .before .before .before .before .before .before .before .if1 .taken) (c .before .before .before .before .message .ensures .0), c .before .before .before .before .message .ensures .1)
+    let start = c .before .before .before .before .before .before .before .before .before .before .before .before .before .before .before .before .before .before .before .before in
+    (act-message (now (start .args .handle)) (memory start) (start .pre .0) (start .args .letter) (now (start .args .body)) (c .before .before .before .before .before .before .before .before .before .before .before .before .before .before .next .ensures) (c .before .before .before .before .before .before .before .before .before .before .before .before .logged .ensures) (c .before .before .before .before .before .before .before .before .before .before .before .is-message .ensures) (c .before .before .before .before .before .before .before .before .before .before .if1 .taken) (c .before .before .before .before .before .before .message .ensures .0), c .before .before .before .before .before .before .message .ensures .1)
 
 other-requires : tie.Need-other-requires
 other-requires c κs =
-    let known = c .before .before in
-    let at-logged = known .before in
-    let at-next = at-logged .before .before in
-    let start = at-next .before .before .before .before .before in
-    ((now (start .args .table), start .pre .0), act-other (now (start .args .handle)) (now (start .args .table)) (start .pre .0) (start .args .letter) (now (start .args .body)) (at-next .next .ensures) (at-logged .logged .ensures) (known .is-message .ensures) (c .before .if1 .left))
+    let start = c .before .before .before .before .before .before .before .before .before .before .before in
+    ((memory start, start .pre .0), act-other (now (start .args .handle)) (memory start) (start .pre .0) (start .args .letter) (now (start .args .body)) (c .before .before .before .before .before .next .ensures) (c .before .before .before .logged .ensures) (c .before .before .is-message .ensures) (c .before .if1 .left))
 
 returns-2 : tie.Need-returns-2
 returns-2 c =
-    let known = c .before .before .before .before .before in
-    let at-logged = known .before in
-    let at-next = at-logged .before .before in
-    let start = at-next .before .before .before .before .before in
-    (c .before .before .other .ensures .0 (now (start .args .table)), c .before .before .other .ensures .1)
+    let start = c .before .before .before .before .before .before .before .before .before .before .before .before .before .before in
+    (c .before .before .other .ensures .0 (memory start), c .before .before .other .ensures .1)
 
 pub act-spec : {M : Type 1} → statement M
-act-spec =
-    tie.close
-    (tie.spec next-requires logged-requires (λ c κs. search needs) message-requires (λ c. search needs) (λ c. search needs) returns other-requires (λ c. search needs) returns-2)
+act-spec = tie.close (tie.spec next-requires logged-requires (λ c κs. search needs) message-requires (λ c. search needs) (λ c. search needs) (λ c. search needs) returns other-requires (λ c. search needs) returns-2)
