@@ -23,8 +23,8 @@ use Rattle.packet.proofs.Rules.{both, and-both, not-call, not-not-call, never}
 use Rattle.handle.specs.Handle.{headSize, handleSize, isHandle, headOf}
 use Rattle.handle.specs.declared.Head.{Head}
 use Rattle.handle.proofs.Rounds.{handle-length}
-use Rattle.table.specs.Memory.{Memories, rowsFit}
-use Rattle.table.specs.Index.{indexSize, isIndex}
+use Rattle.table.specs.Memory.{Memories, memories, rowsFit}
+use Rattle.table.specs.Index.{indexSize, isIndex, LentFitting}
 use Rattle.table.specs.Board as tables
 use Rattle.table.specs.Board.{freshBoard, fits, outcome, beside, startOf}
 use Rattle.table.specs.declared.Applied.{Applied}
@@ -38,7 +38,9 @@ use Rattle.image.specs.declared.Refusal.the-variants as images
 use Rattle.image.specs.declared.Saved.{Saved}
 use Rattle.image.specs.declared.Saved.the-variants as saved
 use Rattle.image.specs.declared.Restored as image
+use Rattle.image.specs.declared.Verdict as imageVerdict
 use Rattle.image.specs.declared.Verdict.the-variants as verdict
+use Rattle.image.proofs.Rounds.{restored-good}
 use Rattle.reader.specs.Refusals.{refusalNumber, standing, standingRefusals, namedIn, named}
 use Rattle.reader.specs.View.{readerWith, heldOf, stateOf, seen, stillOf, readyOf}
 use Rattle.reader.specs.Limits.{isShort, unfinished, holdsUnfinished, withinLimits, mayStep, lentWithin, headWith}
@@ -347,3 +349,10 @@ module _ (bytes : List ℕ) (memory : Memories) {w : Bool} (told : w ≡ isIndex
       → l ≡ lineOf (b .header) → r ≡ readyOf l (b .header .board) → Restores bytes memory (record { reader = r; verdict = b .verdict }) after
   unfolding restoreAll
   restore-goes after b l r y e x f g = rw (← told, not-false w y, g, f, ← e, ← x)
+
+  -- the rows of an accepted image have room in both memories
+  pub restored-room : (after : List ℕ) (b : image.Restored) → not w ≡ false → restoring b after ≡ restoreOf bytes (memory .table)
+      → b .verdict ≡ verdict.Accepted → LentFitting (b .header .board .rows) (memories after (memory .index))
+  restored-room after b y e v =
+      let g = restored-good bytes (memory .table) after (b .header) (sym e ∙ ap (λ (x : imageVerdict.Verdict). restoring (record { header = b .header; verdict = x }) after) v) in
+      ((g .sound .sized, g .sound .few), eqb-true (length (memory .index)) indexSize (sym told ∙ not-false w y))

@@ -15,13 +15,15 @@ ghost use mathlib.Core.Bool.{true, cond};
 ghost use lib.ListN.{length};
 ghost use Rattle.record.specs.Places.{recordSize};
 ghost use Rattle.table.specs.Memory.{memories};
+ghost use Rattle.table.specs.Index.{LentFitting};
+ghost use Rattle.image.specs.declared.Verdict.the-variants.{Accepted};
 ghost use Rattle.handle.specs.Handle.{handleSize, headOf, handleBytes};
 ghost use Rattle.reader.specs.View.{noText, readerWith, headPart, readyOf};
 ghost use Rattle.reader.specs.Calls.{Stepping, Starting};
 ghost use Rattle.reader.specs.Handles.{readerIn, hostWithin, hostMayStep, left, toldMemory, turnedAs, movedBy, HostSteps, GoesOn};
 ghost use Rattle.reader.specs.Shapes.{Ready, Holding, livesOn, stoppedNumber, stepOn, goneOn, heededOn, isAstray, heldAgain};
 ghost use Rattle.reader.specs.Running.{HostRuns, RunsOn, Running};
-ghost use Rattle.reader.specs.Saving.{lineOf, Saves, Restores};
+ghost use Rattle.reader.specs.Saving.{lineOf, Saves, indexAfter, Restores};
 
 mod ceiling;
 mod deliver;
@@ -367,6 +369,17 @@ fn restored_line(h: Header) -> Line
     Line::fresh()
 }
 
+// The index of the rows of an image that was accepted.
+fn index_rows(verdict: image::Verdict, rows: usize, table: &[u8], index: &mut [u8])
+    requires { ⌜ (verdict ≡ Accepted → LentFitting rows (memories (now table) (now index))) ⌝ }
+    ensures { λ _. ⌜ now (index .exit) ≡ indexAfter verdict rows (now (table .entry)) (now (index .entry)) ⌝ }
+{
+    match verdict {
+        image::Verdict::Accepted => index::build(index, table, rows),
+        image::Verdict::Refused(_) => {}
+    }
+}
+
 impl Reader {
     // The handle but for the places of its held bytes.
     pub fn head(self) -> Head
@@ -513,10 +526,7 @@ impl Reader {
         let header = back.header;
         let verdict = back.verdict;
         let board = header.board;
-        match verdict {
-            image::Verdict::Accepted => index::build(index, table, header.board.rows),
-            image::Verdict::Refused(_) => {}
-        }
+        index_rows(verdict, header.board.rows, table, index);
         Restored {
             reader: ready(restored_line(header), board),
             verdict,
