@@ -88,6 +88,20 @@ void break_reader(struct dice *d, struct plain_reader *r); /* leads to 20 */
 void spoil_reader(struct dice *d, struct plain_reader *r); /* leads to 24 on saving */
 void blur_table(struct dice *d, const struct plain_reader *r, uint8_t *table);
 
+/* The true index of a table: the numbers of its rows in use, rising by id, and
+ * then zeros. Where rows share an id, the lower number comes first. */
+void make_index(const uint8_t *table, uint32_t rows, uint8_t *index);
+
+/* A place that names no row in use, ids out of order, a row named twice, zeros
+ * alone, places out of use that are not zero, and any places. */
+enum index_damage {
+    INDEX_PAST, INDEX_ORDER, INDEX_TWICE, INDEX_ZEROS, INDEX_UNUSED, INDEX_ANY,
+    INDEX_DAMAGES
+};
+
+/* Damages an index with so many rows in use; it stays where there are none. */
+void damage_index(struct dice *d, enum index_damage kind, uint32_t rows, uint8_t *index);
+
 /* A length: mostly the exact one, else near it, zero, or far. */
 size_t make_length(struct dice *d, size_t exact);
 

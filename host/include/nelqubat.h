@@ -6,11 +6,11 @@
  * installs it, and `pkg-config --cflags --libs nelqubat` then says how to link.
  *
  *   uint8_t handle[NELQUBAT_HANDLE_BYTES], table[NELQUBAT_TABLE_BYTES];
- *   uint8_t event[NELQUBAT_RECORD_BYTES];
- *   nelqubat_start(handle, sizeof handle, table, sizeof table);
+ *   uint8_t index[NELQUBAT_INDEX_BYTES], event[NELQUBAT_RECORD_BYTES];
+ *   nelqubat_start(handle, sizeof handle, table, sizeof table, index, sizeof index);
  *   for (;;) {
  *       uint32_t a = nelqubat_step(handle, sizeof handle, table, sizeof table,
- *                                  piece, n, event, sizeof event);
+ *                                  index, sizeof index, piece, n, event, sizeof event);
  *       piece += nelqubat_taken(a);
  *       n -= nelqubat_taken(a);
  *       ... until nelqubat_is_event(a) is 0: more bytes wanted, ended or refused
@@ -21,7 +21,8 @@
  *
  *   uint64_t a;
  *   do {
- *       a = nelqubat_run(handle, sizeof handle, table, sizeof table, piece, n, 200);
+ *       a = nelqubat_run(handle, sizeof handle, table, sizeof table,
+ *                        index, sizeof index, piece, n, 200);
  *       piece += nelqubat_run_taken(a);
  *       n -= nelqubat_run_taken(a);
  *       ... show the rows
@@ -32,6 +33,14 @@
  * the count is 0. Memories that are lent to one call must not overlap, except
  * that memory which is only read may be the same. Nothing is allocated and
  * nothing is printed.
+ *
+ * Index memory: the library finds a row by it. It has two bytes for each row that a
+ * table may have: the numbers of the rows in use, counted from 0, rising by the id
+ * of the row, and then zeros. A start and a restore make it, and every step and run
+ * keeps it; a host lends it with its table and does not write to it. It is not
+ * saved: a restore builds it anew. A search halves its span until one place is left,
+ * and a place that it visits has to name a row in use. Where one does not, which
+ * needs a host that wrote there, the call is refused with 20 and its packet is left.
  *
  * Stack: measured by `host/run stack`, a step and a run take up to 1,400 bytes,
  * saving and restoring up to 1,600 and every other call up to 400;
@@ -69,8 +78,9 @@ extern "C" {
  * needs no change, only to be built anew. 3 is 2 with `none` in the lines, and
  * with helpers for prices; sizes, layouts, calls and refusals are as in 2. A
  * program that asked nelqubat_row_has_bid whether a side was seen now asks
- * nelqubat_row_seen_bid. */
-#define NELQUBAT_VERSION 3
+ * nelqubat_row_seen_bid. 4 is 3 with index memory, which start, step, run, restore
+ * and find are lent behind the table; a program for 3 does not build with it. */
+#define NELQUBAT_VERSION 4
 
 /* Sizes, in bytes. */
 enum {
@@ -78,6 +88,7 @@ enum {
     NELQUBAT_ROW_BYTES = 124,
     NELQUBAT_MAX_ROWS = 256,
     NELQUBAT_TABLE_BYTES = 31744,  /* 256 rows of 124 */
+    NELQUBAT_INDEX_BYTES = 512,    /* 256 row numbers of 2 */
     NELQUBAT_RECORD_BYTES = 112,   /* a record; also the event memory */
     NELQUBAT_BLOCK_BYTES = 512,
     NELQUBAT_IMAGE_BYTES = 33280,  /* the longest image, 65 blocks */
@@ -106,7 +117,7 @@ enum {
     NELQUBAT_REFUSED_NOT_TRADING = 14,    /* a quote, state not T, B or S, or tradable not Y */
     NELQUBAT_REFUSED_FIXED_FIELD = 15,    /* a directory changes a fixed field */
     NELQUBAT_REFUSED_FULL = 16,           /* a new id, 256 rows in use */
-    NELQUBAT_REFUSED_MEMORY = 20,         /* wrong length, no handle, or a limit broken */
+    NELQUBAT_REFUSED_MEMORY = 20,         /* wrong length, no handle, a limit broken, a false index */
     NELQUBAT_REFUSED_IMAGE_LENGTH = 21,   /* 0, not whole blocks, or over 65 blocks */
     NELQUBAT_REFUSED_CHECK = 22,          /* a block's check is wrong */
     NELQUBAT_REFUSED_HEAD = 23,           /* a block's number, count, version or next number */
@@ -226,28 +237,35 @@ static inline int nelqubat_is_version(void)
 /* The sizes above, as the library knows them. */
 size_t nelqubat_handle_size(void);
 size_t nelqubat_table_size(void);
+size_t nelqubat_index_size(void);
 size_t nelqubat_record_size(void);
 
-/* Makes a fresh handle and fills the table with zeros.
+/* Makes a fresh handle and fills table and index with zeros.
  * Answer: 0 or 20. Handle memory that is not 305 bytes: 20, and nothing
- * changes. Table memory of the wrong length: 20, the table is left, and the
+ * changes. Table or index memory of the wrong length: 20, both are left, and the
  * handle is fresh. */
 uint32_t nelqubat_start(uint8_t *handle, size_t handle_n,
-                        uint8_t *table, size_t table_n);
+                        uint8_t *table, size_t table_n,
+                        uint8_t *index, size_t index_n);
 
 /* Takes bytes from the piece, up to the end of one packet.
  * Answer: refusal, kind and the count of bytes taken, 258 at most. `more`
  * takes the whole piece and holds it in the handle. An accepted packet is
- * answered in the call that brings its last byte and changes table and handle
- * all at once. A packet that is refused with 1 to 16 changes no row; the
- * refusal then stands, and the same answer comes again with 0 bytes taken.
- * 20, for any of the three memories or a handle that breaks a limit, comes
- * before all else: nothing changes and 0 bytes are taken.
+ * answered in the call that brings its last byte and changes table, index and
+ * handle all at once. A packet that is refused with 1 to 16 changes no row and no
+ * place of the index; the refusal then stands, and the same answer comes again
+ * with 0 bytes taken.
+ * 20, for any of the four memories or a handle that breaks a limit, comes
+ * before all else: nothing changes and 0 bytes are taken. So it is where the
+ * index leads to no row in use; that 20 comes just before 13, when a directory,
+ * state or quote has passed all before it. Nothing stands, and what was held stays
+ * held, so that the packet can be read once the index is true, as after a restore.
  * The event memory has NELQUBAT_RECORD_BYTES. A login fills its first 18
  * bytes, a rejected login its first, a message all of it; everything else of
  * it stays as it was. */
 uint32_t nelqubat_step(uint8_t *handle, size_t handle_n,
                        uint8_t *table, size_t table_n,
+                       uint8_t *index, size_t index_n,
                        const uint8_t *piece, size_t piece_n,
                        uint8_t *event, size_t event_n);
 
@@ -258,19 +276,22 @@ uint32_t nelqubat_step(uint8_t *handle, size_t handle_n,
  * an end of session are finished packets, and the run then stopped because it
  * ended, at its ceiling too; ceiling 0 takes nothing.
  * Answer: refusal, why it stopped, the count of packets finished, which are the
- * accepted ones, and the count of bytes taken. Table and handle are as its steps
- * leave them. `more` takes the whole piece. A packet that is refused with 1 to 16
+ * accepted ones, and the count of bytes taken. Table, index and handle are as its
+ * steps leave them. `more` takes the whole piece. A packet that is refused with 1 to 16
  * changes no row; its bytes are taken, it is not finished, those before it stay,
  * and the refusal stands. A reader that has refused or ended answers so again,
  * at ceiling 0 too, with nothing taken and nothing finished.
- * 20, for either memory or a handle that breaks a limit, comes before all else,
- * and then 27, for a ceiling over 1,000: nothing changes, nothing is taken or
- * finished.
+ * 20, for any of the three memories or a handle that breaks a limit, comes before
+ * all else, and then 27, for a ceiling over 1,000: nothing changes, nothing is
+ * taken or finished. 20 for an index that leads to no row in use comes in its
+ * step: the packets before it are finished, their bytes are taken, and nothing of
+ * its own packet is.
  * Where more is wanted, the held bytes stand at the front of their places in the
  * handle, and the rest of the places stay as they were; any other answer leaves
  * all the places. */
 uint64_t nelqubat_run(uint8_t *handle, size_t handle_n,
                       uint8_t *table, size_t table_n,
+                      uint8_t *index, size_t index_n,
                       const uint8_t *piece, size_t piece_n, uint32_t ceiling);
 
 /* Writes the saved table, 512 bytes for each block, to the front of `out`.
@@ -282,13 +303,14 @@ uint32_t nelqubat_save(const uint8_t *handle, size_t handle_n,
                        const uint8_t *table, size_t table_n,
                        uint8_t *out, size_t out_n);
 
-/* Makes handle and table from an image; the handle waits for a login with the
- * saved session and next number. What was in both before does not matter.
+/* Makes handle, table and index from an image; the handle waits for a login with
+ * the saved session and next number. What was in the three before does not matter.
  * Answer: 0, or 20 to 24. Handle memory that is not 305 bytes: 20, and
- * nothing changes. Any other refusal leaves the table and makes the handle
+ * nothing changes. Any other refusal leaves table and index and makes the handle
  * fresh. */
 uint32_t nelqubat_restore(uint8_t *handle, size_t handle_n,
                           uint8_t *table, size_t table_n,
+                          uint8_t *index, size_t index_n,
                           const uint8_t *image, size_t image_n);
 
 /* Reads one message (no packet around it) into a record of 112 bytes. A side's
@@ -319,15 +341,17 @@ uint32_t nelqubat_line(const uint8_t *handle, size_t handle_n,
                        const uint8_t *table, size_t table_n,
                        size_t k, uint8_t *out, size_t out_n);
 
-/* Looks for the row of an id, the first among the rows in use that has it:
+/* Looks for the row of an id by the index, as a step does:
  *
- *   a = nelqubat_find(handle, sizeof handle, table, sizeof table, id);
+ *   a = nelqubat_find(handle, sizeof handle, table, sizeof table,
+ *                     index, sizeof index, id);
  *   row = nelqubat_found_row(table, a);     NULL for none
  *
- * Answer: 256 times the row's place counted from 1, 0 where no row in use has
- * the id; or 20 (handle, table, limits). */
+ * Answer: 256 times the row's place in the table counted from 1, 0 where no row is
+ * found; or 20 (handle, table, index, limits, an index that leads to no row in use). */
 uint32_t nelqubat_find(const uint8_t *handle, size_t handle_n,
-                       const uint8_t *table, size_t table_n, uint32_t id);
+                       const uint8_t *table, size_t table_n,
+                       const uint8_t *index, size_t index_n, uint32_t id);
 
 /* Big-endian numbers of 1 to 8 bytes. */
 

@@ -16,6 +16,7 @@ enum {
     PLAIN_ROW_BYTES = 124,
     PLAIN_MAX_ROWS = 256,
     PLAIN_TABLE_BYTES = PLAIN_MAX_ROWS * PLAIN_ROW_BYTES,
+    PLAIN_INDEX_BYTES = PLAIN_MAX_ROWS * 2, /* a row's number in each place */
     PLAIN_BLOCK_BYTES = 512,
     PLAIN_MAX_BLOCKS = 65,
     PLAIN_IMAGE_BYTES = PLAIN_MAX_BLOCKS * PLAIN_BLOCK_BYTES,
@@ -154,25 +155,34 @@ struct plain_ran {
     size_t taken;
 };
 
-/* Makes the handle fresh and fills the table with zeros: 0 or 20. */
-int plain_start(struct plain_reader *r, uint8_t *table, size_t table_len);
+/* The index memory has the numbers of the rows in use, rising by the id of the
+ * row, and then zeros. A search that meets a number of no row in use is refused
+ * with 20, which changes nothing and takes no byte of the packet it is for. */
+
+/* Makes the handle fresh and fills table and index with zeros: 0 or 20. */
+int plain_start(struct plain_reader *r, uint8_t *table, size_t table_len,
+                uint8_t *index, size_t index_len);
 
 /* Takes bytes from the piece up to the end of one packet. */
 void plain_step(struct plain_reader *r, uint8_t *table, size_t table_len,
+                uint8_t *index, size_t index_len,
                 const uint8_t *piece, size_t n, struct plain_answer *out);
 
 /* Steps until `ceiling` packets are finished, and tells no events. It stops
- * earlier where the reader has ended or refused, or wants more. */
+ * earlier where the reader has ended or refused, or wants more, and where a
+ * search meets no row; the packets before that one stay. */
 struct plain_ran plain_run(struct plain_reader *r, uint8_t *table, size_t table_len,
+                           uint8_t *index, size_t index_len,
                            const uint8_t *piece, size_t n, uint32_t ceiling);
 
 /* Writes the saved table: 0, 20, 24 or 25. `written` is 0 on a refusal. */
 int plain_save(const struct plain_reader *r, const uint8_t *table,
                size_t table_len, uint8_t *out, size_t out_len, size_t *written);
 
-/* Makes handle and table from an image: 0, or 20 to 24 and a fresh handle. */
+/* Makes handle, table and index from an image: 0, or 20 to 24 and a fresh
+ * handle, with table and index left. */
 int plain_restore(struct plain_reader *r, uint8_t *table, size_t table_len,
-                  const uint8_t *image, size_t n);
+                  uint8_t *index, size_t index_len, const uint8_t *image, size_t n);
 
 /* Reads one message: 0, 10, 11 or 12. A refusal leaves the record alone. */
 int plain_read(const uint8_t *bytes, size_t n, struct plain_message *m);
@@ -185,9 +195,10 @@ int plain_write(const struct plain_message *m, uint8_t *out, size_t out_len,
 int plain_listing(const struct plain_reader *r, const uint8_t *table,
                   size_t table_len, char *out, size_t out_len, size_t *written);
 
-/* Looks for the row of an id: 0 or 20. `row` is null where none in use has it. */
+/* Looks for the row of an id: 0 or 20. `row` is null where none is found. */
 int plain_find(const struct plain_reader *r, const uint8_t *table,
-               size_t table_len, uint32_t id, const uint8_t **row);
+               size_t table_len, const uint8_t *index, size_t index_len,
+               uint32_t id, const uint8_t **row);
 
 /* Whether two records say the same, field by field of their kind. */
 bool plain_same_message(const struct plain_message *a,

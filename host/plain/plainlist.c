@@ -10,12 +10,12 @@
 enum { PIECE_BYTES = 64 * 1024 };
 
 /* Steps through one piece; false once the reader has ended or refused. */
-static bool feed(struct plain_reader *r, uint8_t *table, const uint8_t *piece,
-                 size_t n)
+static bool feed(struct plain_reader *r, uint8_t *table, uint8_t *index,
+                 const uint8_t *piece, size_t n)
 {
     struct plain_answer answer;
     do {
-        plain_step(r, table, PLAIN_TABLE_BYTES, piece, n, &answer);
+        plain_step(r, table, PLAIN_TABLE_BYTES, index, PLAIN_INDEX_BYTES, piece, n, &answer);
         piece += answer.taken;
         n -= answer.taken;
     } while (answer.kind == PLAIN_EVENT);
@@ -23,7 +23,7 @@ static bool feed(struct plain_reader *r, uint8_t *table, const uint8_t *piece,
 }
 
 /* Reads standard input until it runs out or the reader wants no more. */
-static bool read_session(struct plain_reader *r, uint8_t *table)
+static bool read_session(struct plain_reader *r, uint8_t *table, uint8_t *index)
 {
     static uint8_t piece[PIECE_BYTES];
     for (;;) {
@@ -32,19 +32,19 @@ static bool read_session(struct plain_reader *r, uint8_t *table)
             continue;
         if (n < 0)
             return false;
-        if (n == 0 || !feed(r, table, piece, (size_t)n))
+        if (n == 0 || !feed(r, table, index, piece, (size_t)n))
             return true;
     }
 }
 
 int main(void)
 {
-    static uint8_t table[PLAIN_TABLE_BYTES];
+    static uint8_t table[PLAIN_TABLE_BYTES], index[PLAIN_INDEX_BYTES];
     static char text[PLAIN_LISTING_BYTES];
     struct plain_reader reader;
     size_t n;
-    plain_start(&reader, table, sizeof table);
-    if (!read_session(&reader, table)) {
+    plain_start(&reader, table, sizeof table, index, sizeof index);
+    if (!read_session(&reader, table, index)) {
         perror("standard input");
         return 1;
     }

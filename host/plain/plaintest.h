@@ -23,13 +23,14 @@ void equal_in(const char *file, int line, uint64_t got, uint64_t wanted, const c
 /* Bytes of a literal, and their count. */
 #define LITERAL(text) (const uint8_t *)(text), sizeof(text) - 1
 
-/* A reader with its table. */
+/* A reader with its table and index. */
 struct bench {
     struct plain_reader r;
     uint8_t table[PLAIN_TABLE_BYTES];
+    uint8_t index[PLAIN_INDEX_BYTES];
 };
 
-/* A fresh reader over a table that is not zero. */
+/* A fresh reader over a table and an index that are not zero. */
 void start(struct bench *b);
 
 struct plain_answer step(struct bench *b, const uint8_t *piece, size_t n);
@@ -38,6 +39,17 @@ struct plain_answer step(struct bench *b, const uint8_t *piece, size_t n);
 void feed(struct bench *b, const uint8_t *piece, size_t n);
 
 void expect_row(const struct bench *b, size_t k, const uint8_t *row, size_t n);
+
+/* Every place of the index: these row numbers, and then zeros. */
+void index_in(const char *file, int line, const struct bench *b, const uint16_t *rows, size_t n);
+
+#define expect_index(line, b, rows, n) index_in(__FILE__, (line), (b), (rows), (n))
+
+/* The places that a table which no session left behind asks for. */
+void sort_index(struct bench *b);
+
+/* Whether two readers have the same handle, table and index. */
+bool same_bench(const struct bench *a, const struct bench *b);
 
 /* The listing's text, with room for it and a byte short. */
 void expect_listing(const struct bench *b, const char *wanted);
@@ -104,6 +116,7 @@ static const uint8_t day[] = HEARTBEAT LOGIN EVENT("O") DIRECTORY(ID7, "Y")
 enum { DAY_BYTES = sizeof day - 1, DAY_PACKETS = 27 };
 
 void test_reading(void);
+void test_index(void);
 void test_runs(void);
 void test_messages(void);
 void test_images(void);

@@ -45,7 +45,7 @@ static void count_quoted(const struct bench *b, const struct plain_answer *a)
     if (a->kind != PLAIN_EVENT || a->event != PLAIN_MESSAGE ||
         a->message.kind < PLAIN_BOTH_SHORT || a->message.kind > PLAIN_ONE_LONG)
         return;
-    plain_find(&b->r, b->table, sizeof b->table, a->message.id, &row);
+    plain_find(&b->r, b->table, sizeof b->table, b->index, sizeof b->index, a->message.id, &row);
     EXPECT(row != NULL, "the row of a quote that was taken");
     quoted[row[ROW_STATE]]++;
     count_priced(&a->message);
@@ -68,6 +68,14 @@ static uint32_t run(struct dice *d, struct bench *b, const struct bytes *s)
 }
 
 static uint8_t session_space[200000];
+
+/* The index that a reader kept is the one that its table asks for. */
+static void expect_true_index(const struct bench *b)
+{
+    struct bench sorted = *b;
+    sort_index(&sorted);
+    EXPECT(memcmp(sorted.index, b->index, sizeof sorted.index) == 0, "a true index");
+}
 
 static void expect_quoted(void)
 {
@@ -97,8 +105,8 @@ static void true_sessions(void)
         EXPECT(refusal == 0 || (refusal == 6 && whole.r.next == PLAIN_MAX_NUMBER),
                "a made session is accepted");
         EQUAL(run(&d, &cut, &s), refusal, "a made session in pieces");
-        EXPECT(plain_same_reader(&whole.r, &cut.r) &&
-                   memcmp(whole.table, cut.table, sizeof cut.table) == 0, "cut and whole");
+        EXPECT(same_bench(&whole, &cut), "cut and whole");
+        expect_true_index(&whole);
     }
     expect_quoted();
 }
@@ -142,8 +150,8 @@ static void damaged_sessions(void)
         cut = whole;
         refusal = run(NULL, &whole, &s);
         EQUAL(run(&d, &cut, &s), refusal, "a damaged session in pieces");
-        EXPECT(plain_same_reader(&whole.r, &cut.r) &&
-                   memcmp(whole.table, cut.table, sizeof cut.table) == 0, "cut and whole");
+        EXPECT(same_bench(&whole, &cut), "cut and whole");
+        expect_true_index(&whole);
         seen[refusal]++;
     }
     for (uint32_t k = 0; k <= 16; k++)
@@ -186,6 +194,7 @@ static void made_readers(void)
         EQUAL(plain_save(&b.r, b.table, sizeof b.table, image, sizeof image, &n), 0, "a made handle saves");
         if (seed % 5 == 0)
             blur_table(&d, &b.r, b.table);
+        sort_index(&b);
         put_packet_for(&d, &b.r, b.table, &s);
         if (seed % 2 == 0)
             b.r.used = 0;
@@ -215,8 +224,9 @@ static void made_quotes(void)
         const uint8_t *row;
         bool taken;
         make_quoted(&d, seed % 4 == 0, &b.r, b.table, &s);
+        sort_index(&b);
         EQUAL(plain_read(s.at + 3, s.n - 3, &m), 0, "a made quote");
-        plain_find(&b.r, b.table, sizeof b.table, m.id, &row);
+        plain_find(&b.r, b.table, sizeof b.table, b.index, sizeof b.index, m.id, &row);
         EXPECT(row != NULL, "the row of a made quote");
         taken = takes_quote(row[ROW_STATE]) && row[ROW_TRADABLE] == 'Y';
         EQUAL(step(&b, s.at, s.n).refusal, taken ? 0 : 14, "a made quote's refusal");
@@ -236,9 +246,10 @@ static void made_images(void)
         size_t n;
         int refusal;
         make_image(&d, &image);
-        EQUAL(plain_restore(&b.r, b.table, sizeof b.table, image.at, image.n), 0, "a made image");
+        EQUAL(plain_restore(&b.r, b.table, sizeof b.table, b.index, sizeof b.index, image.at, image.n), 0, "a made image");
+        expect_true_index(&b);
         damage_image(&d, (enum image_damage)(seed % IMAGE_DAMAGES), &image);
-        refusal = plain_restore(&b.r, b.table, sizeof b.table, image.at, image.n);
+        refusal = plain_restore(&b.r, b.table, sizeof b.table, b.index, sizeof b.index, image.at, image.n);
         seen[refusal]++;
         if (refusal != 0)
             continue;

@@ -10,10 +10,11 @@ static void reopen(const struct bench *from, struct bench *to)
     EQUAL(plain_save(&from->r, from->table, sizeof from->table, image, sizeof image, &n), 0, "save");
     EQUAL(n, 512 * (1 + (from->r.rows + 3) / 4), "image length");
     memset(to, 0xDD, sizeof *to);
-    EQUAL(plain_restore(&to->r, to->table, sizeof to->table, image, n), 0, "restore");
+    EQUAL(plain_restore(&to->r, to->table, sizeof to->table, to->index, sizeof to->index, image, n), 0, "restore");
     EXPECT(!to->r.logged_in && !to->r.ended && to->r.used == 0 && to->r.refusal == 0,
            "a restored handle waits");
     EXPECT(memcmp(from->table, to->table, sizeof to->table) == 0, "the table restored");
+    EXPECT(memcmp(from->index, to->index, sizeof to->index) == 0, "the index built");
     snprintf((char *)login, sizeof login, "%c%c%c%.10s%20llu", 0, 31, 'A', SESSION,
              (unsigned long long)to->r.next);
     feed(to, login, 33);
@@ -38,8 +39,7 @@ static void resume_everywhere(void)
             feed(&again, day + at, DAY_BYTES - at);
         else
             again.r.ended = true;
-        EXPECT(plain_same_reader(&whole.r, &again.r), "handle after resuming");
-        EXPECT(memcmp(whole.table, again.table, sizeof whole.table) == 0, "table after resuming");
+        EXPECT(same_bench(&whole, &again), "handle, table and index after resuming");
     }
 }
 
@@ -184,18 +184,24 @@ static void seal(uint8_t *image, size_t n)
     seal_image(&b);
 }
 
-/* Restoring an image that is refused: fresh handle, table memory untouched. */
-static void restore_refused(int line, const uint8_t *image, size_t n, int number)
+/* Restoring with these lengths is refused: fresh handle, table and index untouched. */
+static void restore_leaves(int line, size_t table_len, size_t index_len, const uint8_t *image, size_t n, int number)
 {
-    struct bench b, fresh;
+    struct bench b, fresh, left;
     start(&fresh);
     memset(&b, 0x66, sizeof b);
-    equal_at(line, (uint64_t)plain_restore(&b.r, b.table, sizeof b.table, image, n), (uint64_t)number, "restore refused");
-    expect_at(line, plain_same_reader(&b.r, &fresh.r), "a fresh handle");
-    for (size_t i = 0; i < sizeof b.table; i++)
-        expect_at(line, b.table[i] == 0x66, "table memory untouched");
-    equal_at(line, (uint64_t)plain_restore(&b.r, b.table, sizeof b.table - 1, image, n), 20, "20 comes first");
-    expect_at(line, plain_same_reader(&b.r, &fresh.r) && b.table[0] == 0x66, "20 on restoring");
+    left = b;
+    equal_at(line, (uint64_t)plain_restore(&b.r, b.table, table_len, b.index, index_len, image, n),
+             (uint64_t)number, "restore refused");
+    left.r = fresh.r;
+    expect_at(line, same_bench(&b, &left), "a fresh handle, table and index untouched");
+}
+
+static void restore_refused(int line, const uint8_t *image, size_t n, int number)
+{
+    restore_leaves(line, PLAIN_TABLE_BYTES, PLAIN_INDEX_BYTES, image, n, number);
+    restore_leaves(line, PLAIN_TABLE_BYTES - 1, PLAIN_INDEX_BYTES, image, n, 20);
+    restore_leaves(line, PLAIN_TABLE_BYTES, PLAIN_INDEX_BYTES + 1, image, n, 20);
 }
 
 /* Changes one byte of the image, makes its check right, and expects. */
@@ -301,13 +307,13 @@ static void restore_next(void)
             for (size_t i = 0; i < 8; i++)
                 image[512 * block + 6 + i] = (uint8_t)(nexts[k] >> (56 - 8 * i));
         seal(image, n);
-        EQUAL(plain_restore(&b.r, b.table, sizeof b.table, image, n), good ? 0 : 23, "next number");
+        EQUAL(plain_restore(&b.r, b.table, sizeof b.table, b.index, sizeof b.index, image, n), good ? 0 : 23, "next number");
         EQUAL(b.r.next, good ? nexts[k] : 1, "next number restored");
     }
     start(&b);
     EQUAL(plain_save(&b.r, b.table, sizeof b.table, fresh, sizeof fresh, &m), 0, "fresh image");
     memset(b.table, 1, sizeof b.table);
-    EQUAL(plain_restore(&b.r, b.table, sizeof b.table, fresh, m), 0, "restore fresh");
+    EQUAL(plain_restore(&b.r, b.table, sizeof b.table, b.index, sizeof b.index, fresh, m), 0, "restore fresh");
     EXPECT(!b.r.known && b.r.next == 1 && b.table[0] == 0, "fresh restored");
     changed(__LINE__, fresh, m, 13, 2, 24);
     changed(__LINE__, fresh, m, 14, 'A', 24);
@@ -318,7 +324,7 @@ static void restore_next(void)
     changed(__LINE__, fresh, m, 27, 1, 24);
     fresh[24] = 1; /* ten spaces are a name like any other */
     seal(fresh, m);
-    EQUAL(plain_restore(&b.r, b.table, sizeof b.table, fresh, m), 0, "ten spaces known");
+    EQUAL(plain_restore(&b.r, b.table, sizeof b.table, b.index, sizeof b.index, fresh, m), 0, "ten spaces known");
     EXPECT(b.r.known, "known");
     EQUAL(step(&b, LITERAL(LOGIN)).refusal, 5, "another session than the known");
 }

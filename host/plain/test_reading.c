@@ -307,7 +307,8 @@ static void strange_memory(void)
     uint8_t row[PLAIN_ROW_BYTES];
     start(&b);
     feed(&b, LITERAL(LOGIN DIRECTORY(ID7, "Y") DIRECTORY(ID_MAX, "Y")));
-    memcpy(b.table + PLAIN_ROW_BYTES, ID7, 4); /* the id twice: the first counts */
+    memcpy(b.table + PLAIN_ROW_BYTES, ID7, 4); /* the id twice: the later place counts */
+    memcpy(b.index, "\0\1\0\0", 4);
     b.table[52] = 'T';
     b.table[54] = 0xF0;
     b.table[55] = 9;
@@ -330,7 +331,7 @@ static void strange_memory(void)
 static void expect_found(int line, const struct bench *b, uint32_t id, size_t k)
 {
     const uint8_t *row = b->table;
-    equal_at(line, (uint64_t)plain_find(&b->r, b->table, sizeof b->table, id, &row), 0, "find");
+    equal_at(line, (uint64_t)plain_find(&b->r, b->table, sizeof b->table, b->index, sizeof b->index, id, &row), 0, "find");
     expect_at(line, row == (k < PLAIN_MAX_ROWS ? b->table + k * PLAIN_ROW_BYTES : NULL), "the row found");
 }
 
@@ -345,18 +346,25 @@ static void rows_found(void)
     expect_found(__LINE__, &b, 7, 0);
     expect_found(__LINE__, &b, UINT32_MAX, 1);
     expect_found(__LINE__, &b, 8, PLAIN_MAX_ROWS);
-    memcpy(b.table + PLAIN_ROW_BYTES, ID7, 4); /* the id twice: the first counts */
-    expect_found(__LINE__, &b, 7, 0);
-    b.table[3] = 8;
+    memcpy(b.table + PLAIN_ROW_BYTES, ID7, 4); /* the id twice: the later place counts */
     expect_found(__LINE__, &b, 7, 1);
+    b.table[3] = 8; /* out of order: 8 is sought above the place that has it */
+    expect_found(__LINE__, &b, 7, 1);
+    expect_found(__LINE__, &b, 8, PLAIN_MAX_ROWS);
+    sort_index(&b);
+    expect_found(__LINE__, &b, 7, 1);
+    expect_found(__LINE__, &b, 8, 0);
     b.r.rows = 1;
+    EQUAL(plain_find(&b.r, b.table, sizeof b.table, b.index, sizeof b.index, 7, &row), 20, "a row out of use");
+    EXPECT(row == NULL, "no row of a false index");
+    sort_index(&b);
     expect_found(__LINE__, &b, 7, PLAIN_MAX_ROWS);
-    EQUAL(plain_find(&b.r, b.table, sizeof b.table - 1, 8, &row), 20, "a table too short");
+    EQUAL(plain_find(&b.r, b.table, sizeof b.table - 1, b.index, sizeof b.index, 8, &row), 20, "a table too short");
     EXPECT(row == NULL, "no row of a table too short");
     b.r.refusal = 13; /* one that stands changes nothing */
     expect_found(__LINE__, &b, 8, 0);
     b.r.refusal = 17;
-    EQUAL(plain_find(&b.r, b.table, sizeof b.table, 8, &row), 20, "a limit broken");
+    EQUAL(plain_find(&b.r, b.table, sizeof b.table, b.index, sizeof b.index, 8, &row), 20, "a limit broken");
     start(&b);
     feed(&b, LITERAL(LOGIN));
     fill_up(&b);
@@ -374,6 +382,7 @@ static void rows_out_of_use(void)
         start(&b);
         feed(&b, LITERAL(LOGIN));
         b.r.rows = rows;
+        sort_index(&b);
         past = b.table + rows * PLAIN_ROW_BYTES;
         memcpy(past, ROW(ID7, "Y", "T", "X", "\3", LONG_BID, LONG_ASK, "\4"), PLAIN_ROW_BYTES);
         EQUAL(step(&b, LITERAL(BID_LONG(ID7))).refusal, 13, "a row out of use");
@@ -428,6 +437,8 @@ static void refused_packet(int line, const struct bench *before,
         expect_at(line, plain_same_reader(&b.r, &wanted), "handle after a refusal");
         expect_at(line, memcmp(b.table, before->table, sizeof b.table) == 0,
                   "table after a refusal");
+        expect_at(line, memcmp(b.index, before->index, sizeof b.index) == 0,
+                  "index after a refusal");
         a = step(&b, packet, n);
         expect_at(line, a.kind == PLAIN_REFUSED && a.taken == 0 && a.refusal == number,
                   "the refusal repeated");
@@ -642,7 +653,7 @@ static void handle_refused(int line, const struct bench *before, size_t table_le
     struct plain_answer a;
     uint8_t image[PLAIN_BLOCK_BYTES * 2];
     size_t written = 1;
-    plain_step(&b.r, b.table, table_len, LITERAL(HEARTBEAT), &a);
+    plain_step(&b.r, b.table, table_len, b.index, sizeof b.index, LITERAL(HEARTBEAT), &a);
     expect_at(line, a.kind == PLAIN_REFUSED && a.refusal == 20 && a.taken == 0, "20");
     expect_at(line, memcmp(&b, before, sizeof b) == 0, "20 changes nothing");
     memset(image, 0x77, sizeof image);
@@ -709,15 +720,17 @@ static void start_refused(void)
     struct bench b, fresh;
     start(&fresh);
     memset(&b, 0x33, sizeof b);
-    EQUAL(plain_start(&b.r, b.table, sizeof b.table + 1), 20, "start 20");
+    EQUAL(plain_start(&b.r, b.table, sizeof b.table + 1, b.index, sizeof b.index), 20, "start 20");
     EXPECT(plain_same_reader(&b.r, &fresh.r), "a fresh handle with 20");
     EXPECT(b.table[0] == 0x33 && b.table[PLAIN_TABLE_BYTES - 1] == 0x33, "memory left");
+    EXPECT(b.index[0] == 0x33 && b.index[PLAIN_INDEX_BYTES - 1] == 0x33, "index left");
     EXPECT(memcmp(fresh.r.session, "          ", 10) == 0 && fresh.r.next == 1 &&
                !fresh.r.known && !fresh.r.logged_in && !fresh.r.ended &&
                fresh.r.rows + fresh.r.used + fresh.r.refusal == 0 &&
                fresh.r.event == 0 && fresh.r.live == 0, "a fresh handle");
     for (size_t i = 0; i < PLAIN_TABLE_BYTES; i++)
         EQUAL(fresh.table[i], 0, "a fresh table");
+    expect_index(__LINE__, &fresh, NULL, 0);
 }
 
 /* Steps through bytes until they run out, adding the events to a list. */
@@ -758,14 +771,12 @@ static void cut_everywhere(void)
         EQUAL(count, DAY_PACKETS, "packets of the cut session");
         for (size_t k = 0; k < count; k++)
             EXPECT(plain_same_answer(&whole[k], &cut[k]), "events of the cut session");
-        EXPECT(plain_same_reader(&a.r, &b.r), "handle of the cut session");
-        EXPECT(memcmp(a.table, b.table, sizeof a.table) == 0, "table of the cut session");
+        EXPECT(same_bench(&a, &b), "handle, table and index of the cut session");
     }
     start(&b);
     for (size_t at = 0, n = 0; at < DAY_BYTES; at++)
         n = collect(&b, day + at, 1, cut, n);
-    EXPECT(plain_same_reader(&a.r, &b.r) && memcmp(a.table, b.table, sizeof a.table) == 0,
-           "byte by byte");
+    EXPECT(same_bench(&a, &b), "byte by byte");
 }
 
 void test_reading(void)

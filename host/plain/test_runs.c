@@ -4,7 +4,7 @@
 
 static struct plain_ran run(struct bench *b, const uint8_t *piece, size_t n, uint32_t ceiling)
 {
-    return plain_run(&b->r, b->table, sizeof b->table, piece, n, ceiling);
+    return plain_run(&b->r, b->table, sizeof b->table, b->index, sizeof b->index, piece, n, ceiling);
 }
 
 static void ran_at(int line, struct plain_ran ran, enum plain_why why, uint32_t refusal,
@@ -93,8 +93,8 @@ static void call_refused(int line, const struct bench *before, size_t table_len,
                          uint32_t refusal)
 {
     struct bench b = *before;
-    ran_at(line, plain_run(&b.r, b.table, table_len, LITERAL(HEARTBEAT), ceiling),
-           PLAIN_RAN_REFUSED, refusal, 0, 0);
+    struct plain_ran ran = plain_run(&b.r, b.table, table_len, b.index, sizeof b.index, LITERAL(HEARTBEAT), ceiling);
+    ran_at(line, ran, PLAIN_RAN_REFUSED, refusal, 0, 0);
     expect_at(line, memcmp(&b, before, sizeof b) == 0, "a refused call changes nothing");
 }
 
@@ -165,8 +165,7 @@ static void as_steps(const struct bench *from, const uint8_t *p, size_t n, uint3
         ran = run(&a, p, n, ceiling);
         wanted = by_steps(&b, p, n, ceiling);
         RAN(ran, wanted.why, wanted.refusal, wanted.finished, wanted.taken);
-        EXPECT(plain_same_reader(&a.r, &b.r), "a run's handle");
-        EXPECT(memcmp(a.table, b.table, sizeof a.table) == 0, "a run's table");
+        EXPECT(same_bench(&a, &b), "a run's handle, table and index");
         p += ran.taken;
         n -= ran.taken;
     } while (ran.why == PLAIN_RAN_CEILING && ceiling != 0);

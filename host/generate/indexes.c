@@ -1,0 +1,100 @@
+#include "parts.h"
+
+#include <string.h>
+
+enum { PLACE_BYTES = 2 };
+
+static uint8_t *place_at(uint8_t *index, size_t place)
+{
+    return index + place * PLACE_BYTES;
+}
+
+/* By id, and where two rows have one id, by their numbers. */
+static bool comes_before(const uint8_t *table, uint32_t a, uint32_t b)
+{
+    uint64_t first = get_number(table + a * (size_t)PLAIN_ROW_BYTES, 4);
+    uint64_t second = get_number(table + b * (size_t)PLAIN_ROW_BYTES, 4);
+    return first != second ? first < second : a < b;
+}
+
+/* How many rows come before this one. */
+static size_t place_of(const uint8_t *table, uint32_t rows, uint32_t row)
+{
+    size_t before = 0;
+    for (uint32_t k = 0; k < rows; k++)
+        before += comes_before(table, k, row);
+    return before;
+}
+
+void make_index(const uint8_t *table, uint32_t rows, uint8_t *index)
+{
+    memset(index, 0, PLAIN_INDEX_BYTES);
+    for (uint32_t row = 0; row < rows; row++)
+        set_number(place_at(index, place_of(table, rows, row)), PLACE_BYTES, row);
+}
+
+/* A number of no row in use: the first, the first that no table has, or any. */
+static uint64_t pick_past(struct dice *d, uint32_t rows)
+{
+    uint64_t far = dice_between(d, rows, UINT16_MAX);
+    if (dice_chance(d, 40))
+        return rows;
+    return dice_chance(d, 30) ? PLAIN_MAX_ROWS : far;
+}
+
+static void swap_places(uint8_t *a, uint8_t *b)
+{
+    uint8_t kept[PLACE_BYTES];
+    memcpy(kept, a, sizeof kept);
+    memcpy(a, b, sizeof kept);
+    memcpy(b, kept, sizeof kept);
+}
+
+/* Two places exchanged, or all of those in use turned around. */
+static void spoil_order(struct dice *d, uint32_t rows, uint8_t *index)
+{
+    size_t one = dice_below(d, rows), other = dice_below(d, rows);
+    if (dice_chance(d, 70)) {
+        swap_places(place_at(index, one), place_at(index, other));
+        return;
+    }
+    for (size_t place = 0; place < rows / 2; place++)
+        swap_places(place_at(index, place), place_at(index, rows - 1 - place));
+}
+
+/* Every place in use names some row in use, or has any bytes. */
+static void spoil_all(struct dice *d, uint32_t rows, uint8_t *index)
+{
+    bool in_use = dice_chance(d, 70);
+    for (size_t place = 0; place < rows; place++)
+        set_number(place_at(index, place), PLACE_BYTES, in_use ? dice_below(d, rows) : dice_below(d, 1 << 16));
+}
+
+void damage_index(struct dice *d, enum index_damage kind, uint32_t rows, uint8_t *index)
+{
+    uint8_t *one, *other;
+    if (rows == 0 || rows > PLAIN_MAX_ROWS)
+        return;
+    one = place_at(index, dice_below(d, rows));
+    other = place_at(index, dice_below(d, rows));
+    switch (kind) {
+    case INDEX_PAST:
+        set_number(one, PLACE_BYTES, pick_past(d, rows));
+        break;
+    case INDEX_ORDER:
+        spoil_order(d, rows, index);
+        break;
+    case INDEX_TWICE:
+        memmove(one, other, PLACE_BYTES);
+        break;
+    case INDEX_ZEROS:
+        memset(index, 0, PLAIN_INDEX_BYTES);
+        break;
+    case INDEX_UNUSED:
+        dice_fill(d, place_at(index, rows), PLAIN_INDEX_BYTES - rows * (size_t)PLACE_BYTES);
+        break;
+    default:
+        spoil_all(d, rows, index);
+        break;
+    }
+}
