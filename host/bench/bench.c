@@ -24,6 +24,7 @@ static struct {
     struct bytes session;
     size_t piece; /* bytes in a piece */
     size_t units; /* messages or tables in one turn */
+    size_t times; /* how often a turn of newcomers reads the session */
     uint8_t image[NELQUBAT_IMAGE_BYTES];
     size_t image_n;
     struct plain_message message[MESSAGES];
@@ -33,22 +34,28 @@ static struct {
 
 /* Each side's own reader. */
 static uint8_t handle[NELQUBAT_HANDLE_BYTES], table[NELQUBAT_TABLE_BYTES];
+static uint8_t id_index[NELQUBAT_INDEX_BYTES];
 static struct plain_reader reader;
-static uint8_t plain_table[PLAIN_TABLE_BYTES];
+static uint8_t plain_table[PLAIN_TABLE_BYTES], plain_index[PLAIN_INDEX_BYTES];
 
 /* Making the work. `scale` is how much of it there is. */
+
+static void make_room(size_t room)
+{
+    work.session.room = room;
+    work.session.at = malloc(room);
+    if (work.session.at != NULL)
+        return;
+    fprintf(stderr, "bench: no memory\n");
+    exit(2);
+}
 
 static void make_work_session(struct session_plan plan, size_t scale, size_t piece)
 {
     struct dice d = dice_seeded(7);
     plan.packets = (unsigned)scale;
     plan.replay_end = plan.end = false;
-    work.session.room = session_room(&plan);
-    work.session.at = malloc(work.session.room);
-    if (work.session.at == NULL) {
-        fprintf(stderr, "bench: no memory\n");
-        exit(2);
-    }
+    make_room(session_room(&plan));
     make_session(&d, &plan, &work.session);
     work.piece = piece == 0 ? work.session.n : piece;
 }
@@ -90,6 +97,23 @@ static void make_directories(size_t scale)
     make_work_session(plan, scale, 0);
 }
 
+/* A full table of new ids in mixed order: the steps of this odd number, which is
+ * near the golden section of 2^32, never meet one twice. */
+static void make_newcomers(size_t scale)
+{
+    struct dice d = dice_seeded(7);
+    struct plain_message m;
+    make_room(NELQUBAT_PACKET_BYTES * (NELQUBAT_MAX_ROWS + 1));
+    put_login(&work.session, (const uint8_t *)"NEWCOMERS ", 1);
+    for (uint32_t k = 0; k < NELQUBAT_MAX_ROWS; k++) {
+        make_message(&d, PLAIN_DIRECTORY, &m);
+        m.id = k * UINT32_C(2654435769);
+        put_message(&work.session, &m);
+    }
+    work.piece = work.session.n;
+    work.times = scale / NELQUBAT_MAX_ROWS;
+}
+
 static void read_plain_session(void);
 
 /* A table of 256 rows with quotes, in both readers' memory and as an image. */
@@ -99,7 +123,8 @@ static void make_table(size_t scale)
     read_plain_session();
     plain_save(&reader, plain_table, sizeof plain_table, work.image, sizeof work.image,
                &work.image_n);
-    nelqubat_restore(handle, sizeof handle, table, sizeof table, work.image, work.image_n);
+    nelqubat_restore(handle, sizeof handle, table, sizeof table, id_index, sizeof id_index,
+                     work.image, work.image_n);
     work.units = scale / 50;
 }
 
@@ -139,12 +164,12 @@ static void read_library_session(void)
 {
     uint8_t event[NELQUBAT_RECORD_BYTES];
     size_t at = 0;
-    nelqubat_start(handle, sizeof handle, table, sizeof table);
+    nelqubat_start(handle, sizeof handle, table, sizeof table, id_index, sizeof id_index);
     while (at < work.session.n) {
         size_t end = at + work.piece < work.session.n ? at + work.piece : work.session.n;
         uint32_t a;
         do {
-            a = nelqubat_step(handle, sizeof handle, table, sizeof table,
+            a = nelqubat_step(handle, sizeof handle, table, sizeof table, id_index, sizeof id_index,
                               work.session.at + at, end - at, event, sizeof event);
             at += nelqubat_taken(a);
         } while (nelqubat_is_event(a));
@@ -159,12 +184,12 @@ static void read_plain_session(void)
 {
     struct plain_answer a;
     size_t at = 0;
-    plain_start(&reader, plain_table, sizeof plain_table);
+    plain_start(&reader, plain_table, sizeof plain_table, plain_index, sizeof plain_index);
     while (at < work.session.n) {
         size_t end = at + work.piece < work.session.n ? at + work.piece : work.session.n;
         do {
-            plain_step(&reader, plain_table, sizeof plain_table, work.session.at + at,
-                       end - at, &a);
+            plain_step(&reader, plain_table, sizeof plain_table, plain_index, sizeof plain_index,
+                       work.session.at + at, end - at, &a);
             at += a.taken;
         } while (a.kind == PLAIN_EVENT);
         if (a.kind != PLAIN_MORE)
@@ -179,10 +204,10 @@ static void run_library_session(void)
 {
     size_t at = 0;
     uint64_t a;
-    nelqubat_start(handle, sizeof handle, table, sizeof table);
+    nelqubat_start(handle, sizeof handle, table, sizeof table, id_index, sizeof id_index);
     do {
-        a = nelqubat_run(handle, sizeof handle, table, sizeof table, work.session.at + at,
-                         work.session.n - at, NELQUBAT_MAX_PACKETS);
+        a = nelqubat_run(handle, sizeof handle, table, sizeof table, id_index, sizeof id_index,
+                         work.session.at + at, work.session.n - at, NELQUBAT_MAX_PACKETS);
         at += nelqubat_run_taken(a);
     } while (nelqubat_run_why(a) == NELQUBAT_CEILING);
     need_whole("the library", at);
@@ -193,14 +218,32 @@ static void run_plain_session(void)
 {
     struct plain_ran ran;
     size_t at = 0;
-    plain_start(&reader, plain_table, sizeof plain_table);
+    plain_start(&reader, plain_table, sizeof plain_table, plain_index, sizeof plain_index);
     do {
-        ran = plain_run(&reader, plain_table, sizeof plain_table, work.session.at + at,
-                        work.session.n - at, PLAIN_MAX_PACKETS);
+        ran = plain_run(&reader, plain_table, sizeof plain_table, plain_index, sizeof plain_index,
+                        work.session.at + at, work.session.n - at, PLAIN_MAX_PACKETS);
         at += ran.taken;
     } while (ran.why == PLAIN_RAN_CEILING);
     need_whole("the plain reader", at);
     work.units = (size_t)reader.next - 1;
+}
+
+/* A fresh start and all newcomers, again and again. */
+static void list_by(void (*read_session)(void))
+{
+    for (size_t i = 0; i < work.times; i++)
+        read_session();
+    work.units *= work.times;
+}
+
+static void list_library(void)
+{
+    list_by(read_library_session);
+}
+
+static void list_plain(void)
+{
+    list_by(read_plain_session);
 }
 
 static void save_library(void)
@@ -221,13 +264,15 @@ static void save_plain(void)
 static void restore_library(void)
 {
     for (size_t i = 0; i < work.units; i++)
-        nelqubat_restore(handle, sizeof handle, table, sizeof table, work.image, work.image_n);
+        nelqubat_restore(handle, sizeof handle, table, sizeof table, id_index, sizeof id_index,
+                         work.image, work.image_n);
 }
 
 static void restore_plain(void)
 {
     for (size_t i = 0; i < work.units; i++)
-        plain_restore(&reader, plain_table, sizeof plain_table, work.image, work.image_n);
+        plain_restore(&reader, plain_table, sizeof plain_table, plain_index, sizeof plain_index,
+                      work.image, work.image_n);
 }
 
 static void need_bad_check(const char *reader_name, unsigned refusal)
@@ -242,16 +287,16 @@ static void check_library(void)
 {
     for (size_t i = 0; i < work.units; i += work.image_n / NELQUBAT_BLOCK_BYTES)
         need_bad_check("the library",
-                       nelqubat_refusal(nelqubat_restore(handle, sizeof handle, table, sizeof table,
-                                                         work.image, work.image_n)));
+                       nelqubat_refusal(nelqubat_restore(handle, sizeof handle, table, sizeof table, id_index,
+                                                         sizeof id_index, work.image, work.image_n)));
 }
 
 static void check_plain(void)
 {
     for (size_t i = 0; i < work.units; i += work.image_n / NELQUBAT_BLOCK_BYTES)
         need_bad_check("the plain reader",
-                       (unsigned)plain_restore(&reader, plain_table, sizeof plain_table, work.image,
-                                               work.image_n));
+                       (unsigned)plain_restore(&reader, plain_table, sizeof plain_table, plain_index,
+                                               sizeof plain_index, work.image, work.image_n));
 }
 
 static void read_library(void)
@@ -299,6 +344,8 @@ static const struct task {
      read_library_session, read_plain_session},
     {"directories", "directories, 256 instruments, whole piece", "messages", make_directories,
      read_library_session, read_plain_session},
+    {"newcomers", "directories for 256 new ids in mixed order, from a start", "messages", make_newcomers,
+     list_library, list_plain},
     {"save", "saving 256 rows", "tables", make_table, save_library, save_plain},
     {"restore", "restoring 256 rows", "tables", make_table, restore_library, restore_plain},
     {"check", "the checks of 65 blocks, the last one wrong", "blocks", make_bad_check, check_library,

@@ -19,7 +19,7 @@ enum call { NONE, START, STEP, RUN, SAVE, RESTORE, READ, WRITE, LINE, FIND, CALL
 static const char *const names[CALLS] = {
     "nothing", "start", "step", "run", "save", "restore", "read", "write", "line", "find"};
 
-static uint8_t handle[NELQUBAT_HANDLE_BYTES], table[NELQUBAT_TABLE_BYTES];
+static uint8_t handle[NELQUBAT_HANDLE_BYTES], table[NELQUBAT_TABLE_BYTES], id_index[NELQUBAT_INDEX_BYTES];
 static uint8_t event[NELQUBAT_RECORD_BYTES], record[NELQUBAT_RECORD_BYTES];
 static uint8_t image[NELQUBAT_IMAGE_BYTES + NELQUBAT_BLOCK_BYTES];
 static uint8_t stack[STACK];
@@ -42,19 +42,21 @@ static void make_call(void)
     case NONE:
         break;
     case START:
-        work.answer = nelqubat_start(handle, sizeof handle, table, sizeof table);
+        work.answer = nelqubat_start(handle, sizeof handle, table, sizeof table, id_index, sizeof id_index);
         break;
     case STEP:
-        work.answer = nelqubat_step(handle, sizeof handle, table, sizeof table, in, n, event, sizeof event);
+        work.answer = nelqubat_step(handle, sizeof handle, table, sizeof table, id_index, sizeof id_index, in, n,
+                                    event, sizeof event);
         break;
     case RUN:
-        work.answer = nelqubat_run(handle, sizeof handle, table, sizeof table, in, n, work.ceiling);
+        work.answer = nelqubat_run(handle, sizeof handle, table, sizeof table, id_index, sizeof id_index, in, n,
+                                   work.ceiling);
         break;
     case SAVE:
         work.answer = nelqubat_save(handle, sizeof handle, table, sizeof table, image, NELQUBAT_IMAGE_BYTES);
         break;
     case RESTORE:
-        work.answer = nelqubat_restore(handle, sizeof handle, table, sizeof table, in, n);
+        work.answer = nelqubat_restore(handle, sizeof handle, table, sizeof table, id_index, sizeof id_index, in, n);
         break;
     case READ:
         work.answer = nelqubat_read(in, n, record, sizeof record);
@@ -63,7 +65,8 @@ static void make_call(void)
         work.answer = nelqubat_write(in, n, image, NELQUBAT_MESSAGE_BYTES);
         break;
     case FIND:
-        work.answer = nelqubat_find(handle, sizeof handle, table, sizeof table, (uint32_t)n);
+        work.answer = nelqubat_find(handle, sizeof handle, table, sizeof table, id_index, sizeof id_index,
+                                    (uint32_t)n);
         break;
     default:
         work.answer = nelqubat_line(handle, sizeof handle, table, sizeof table, n, image, NELQUBAT_LINE_BYTES);

@@ -51,12 +51,15 @@ static void add_save(struct dice *d, enum operation op, struct script *s)
 /* One of the lent lengths made wrong. */
 static void spoil_length(struct dice *d, struct call *c)
 {
-    switch (dice_below(d, 3)) {
+    switch (dice_below(d, 4)) {
     case 0:
         c->handle_n = (uint32_t)make_length(d, c->handle_n);
         break;
     case 1:
         c->table_n = (uint32_t)make_length(d, c->table_n);
+        break;
+    case 2:
+        c->index_n = (uint32_t)make_length(d, c->index_n);
         break;
     default:
         c->memory_n = (uint32_t)make_length(d, c->memory_n);
@@ -346,6 +349,7 @@ void make_handle_case(struct dice *d, bool damaged, struct script *s, struct tal
         blur_table(d, &r, s->table);
     else if (r.rows > 0 && dice_chance(d, 30))
         edge_row(d, s->table + dice_below(d, r.rows) * NELQUBAT_ROW_BYTES);
+    make_index(s->table, r.rows, s->index);
     oracle_pack_handle(&r, s->handle);
     if (damaged)
         damage_handle(d, &r, s->handle);
@@ -365,6 +369,7 @@ void make_quote_case(struct dice *d, bool damaged, struct script *s, struct tall
     struct bytes quote = {packet, 0, sizeof packet};
     script_clear(s);
     make_quoted(d, damaged, &r, s->table, &quote);
+    make_index(s->table, r.rows, s->index);
     oracle_pack_handle(&r, s->handle);
     add_pieces(d, quote.at, quote.n, false, s);
     t->handles++;

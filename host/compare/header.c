@@ -27,21 +27,32 @@ static void equal_at(int line, uint64_t got, uint64_t wanted)
 #define LITERAL(text) (const uint8_t *)(text), sizeof(text) - 1
 
 /* The library's memory, and the plain reader's. */
-static uint8_t handle[NELQUBAT_HANDLE_BYTES], table[NELQUBAT_TABLE_BYTES];
+static uint8_t handle[NELQUBAT_HANDLE_BYTES], table[NELQUBAT_TABLE_BYTES], id_index[NELQUBAT_INDEX_BYTES];
 static uint8_t event[NELQUBAT_RECORD_BYTES], record[NELQUBAT_RECORD_BYTES];
 static uint8_t image[NELQUBAT_IMAGE_BYTES + NELQUBAT_BLOCK_BYTES];
 static struct plain_reader reader;
-static uint8_t plain_table[PLAIN_TABLE_BYTES];
+static uint8_t plain_table[PLAIN_TABLE_BYTES], plain_index[PLAIN_INDEX_BYTES];
 
 static void start_both(void)
 {
-    EQUAL(nelqubat_start(handle, sizeof handle, table, sizeof table), NELQUBAT_DONE);
-    EQUAL(plain_start(&reader, plain_table, sizeof plain_table), 0);
+    EQUAL(nelqubat_start(handle, sizeof handle, table, sizeof table, id_index, sizeof id_index), NELQUBAT_DONE);
+    EQUAL(plain_start(&reader, plain_table, sizeof plain_table, plain_index, sizeof plain_index), 0);
 }
 
 static uint32_t step(const uint8_t *piece, size_t n)
 {
-    return nelqubat_step(handle, sizeof handle, table, sizeof table, piece, n, event, sizeof event);
+    return nelqubat_step(handle, sizeof handle, table, sizeof table, id_index, sizeof id_index, piece, n,
+                         event, sizeof event);
+}
+
+static uint64_t run(size_t handle_n, const uint8_t *piece, size_t n, uint32_t ceiling)
+{
+    return nelqubat_run(handle, handle_n, table, sizeof table, id_index, sizeof id_index, piece, n, ceiling);
+}
+
+static uint32_t restore(size_t n)
+{
+    return nelqubat_restore(handle, sizeof handle, table, sizeof table, id_index, sizeof id_index, image, n);
 }
 
 /* Sizes: those that the library states, and those of plain.h. */
@@ -49,13 +60,15 @@ static uint32_t step(const uint8_t *piece, size_t n)
 static void test_sizes(void)
 {
     EQUAL(nelqubat_is_version(), 1);
-    EQUAL(NELQUBAT_VERSION, 3);
+    EQUAL(NELQUBAT_VERSION, 4);
     EQUAL(NELQUBAT_HANDLE_BYTES, nelqubat_handle_size());
     EQUAL(NELQUBAT_TABLE_BYTES, nelqubat_table_size());
+    EQUAL(NELQUBAT_INDEX_BYTES, nelqubat_index_size());
     EQUAL(NELQUBAT_RECORD_BYTES, nelqubat_record_size());
     EQUAL(NELQUBAT_ROW_BYTES, PLAIN_ROW_BYTES);
     EQUAL(NELQUBAT_MAX_ROWS, PLAIN_MAX_ROWS);
     EQUAL(NELQUBAT_TABLE_BYTES, PLAIN_TABLE_BYTES);
+    EQUAL(NELQUBAT_INDEX_BYTES, PLAIN_INDEX_BYTES);
     EQUAL(NELQUBAT_BLOCK_BYTES, PLAIN_BLOCK_BYTES);
     EQUAL(NELQUBAT_IMAGE_BYTES, PLAIN_IMAGE_BYTES);
     EQUAL(NELQUBAT_MESSAGE_BYTES, PLAIN_MESSAGE_BYTES);
@@ -351,7 +364,7 @@ static void same_row(const uint8_t *row, const uint8_t *plain)
     EQUAL(nelqubat_row_time(row), get_number(plain + ROW_TIME, 8));
 }
 
-static void same_handle(void)
+static void same_handle_and_index(void)
 {
     EQUAL(nelqubat_handle_next(handle), reader.next);
     EQUAL(nelqubat_handle_live(handle), reader.live);
@@ -364,6 +377,7 @@ static void same_handle(void)
     EQUAL(nelqubat_handle_refusal(handle), reader.refusal);
     EQUAL(nelqubat_handle_event(handle), reader.event);
     SAME(nelqubat_handle_packet(handle), reader.held, reader.used);
+    SAME(id_index, plain_index, sizeof id_index);
 }
 
 static unsigned kind_of(const struct plain_answer *a)
@@ -400,9 +414,9 @@ static void step_both(const uint8_t *bytes, size_t n)
     struct plain_answer a;
     do {
         uint32_t answer = step(bytes, n);
-        plain_step(&reader, plain_table, sizeof plain_table, bytes, n, &a);
+        plain_step(&reader, plain_table, sizeof plain_table, plain_index, sizeof plain_index, bytes, n, &a);
         same_answer(answer, &a);
-        same_handle();
+        same_handle_and_index();
         bytes += a.taken;
         n -= a.taken;
     } while (a.kind == PLAIN_EVENT);
@@ -438,10 +452,11 @@ static void run_both(const uint8_t *bytes, size_t n, uint32_t ceiling)
 {
     uint64_t answer;
     do {
-        struct plain_ran ran = plain_run(&reader, plain_table, sizeof plain_table, bytes, n, ceiling);
-        answer = nelqubat_run(handle, sizeof handle, table, sizeof table, bytes, n, ceiling);
+        struct plain_ran ran = plain_run(&reader, plain_table, sizeof plain_table, plain_index,
+                                         sizeof plain_index, bytes, n, ceiling);
+        answer = run(sizeof handle, bytes, n, ceiling);
         same_run(answer, &ran);
-        same_handle();
+        same_handle_and_index();
         bytes += ran.taken;
         n -= ran.taken;
     } while (nelqubat_run_why(answer) == NELQUBAT_CEILING);
@@ -454,9 +469,9 @@ static void restore_both(void)
     size_t n;
     EQUAL(plain_save(&reader, plain_table, sizeof plain_table, image, sizeof image, &n), 0);
     EQUAL(nelqubat_written(answer), n);
-    EQUAL(nelqubat_restore(handle, sizeof handle, table, sizeof table, image, n), NELQUBAT_DONE);
-    EQUAL(plain_restore(&reader, plain_table, sizeof plain_table, image, n), 0);
-    same_handle();
+    EQUAL(restore(n), NELQUBAT_DONE);
+    EQUAL(plain_restore(&reader, plain_table, sizeof plain_table, plain_index, sizeof plain_index, image, n), 0);
+    same_handle_and_index();
 }
 
 /* Each row is found by its id, which no other row of a session has. */
@@ -464,7 +479,7 @@ static void find_rows(void)
 {
     uint32_t answer;
     for (size_t k = 0; k < reader.rows; k++) {
-        answer = nelqubat_find(handle, sizeof handle, table, sizeof table,
+        answer = nelqubat_find(handle, sizeof handle, table, sizeof table, id_index, sizeof id_index,
                                (uint32_t)get_number(plain_table + k * PLAIN_ROW_BYTES + ROW_ID, 4));
         EQUAL(nelqubat_refusal(answer), NELQUBAT_DONE);
         EQUAL(nelqubat_found(answer), 1);
@@ -474,9 +489,9 @@ static void find_rows(void)
 }
 
 /* Nothing is found: no row has the id, or the call is refused. */
-static void find_nothing(size_t table_n, uint32_t id, unsigned refusal)
+static void find_nothing(size_t index_n, uint32_t id, unsigned refusal)
 {
-    uint32_t answer = nelqubat_find(handle, sizeof handle, table, table_n, id);
+    uint32_t answer = nelqubat_find(handle, sizeof handle, table, sizeof table, id_index, index_n, id);
     EQUAL(nelqubat_refusal(answer), refusal);
     EQUAL(nelqubat_found(answer), 0);
     EQUAL(nelqubat_found_row(table, answer) == NULL, 1);
@@ -504,8 +519,8 @@ static void test_sessions(void)
         for (size_t k = 0; k < reader.rows; k++)
             same_row(nelqubat_row(table, k), plain_table + k * PLAIN_ROW_BYTES);
         find_rows();
-        find_nothing(sizeof table, 0, NELQUBAT_DONE);
-        find_nothing(sizeof table - 1, nelqubat_row_id(table), NELQUBAT_REFUSED_MEMORY);
+        find_nothing(sizeof id_index, 0, NELQUBAT_DONE);
+        find_nothing(sizeof id_index - 1, nelqubat_row_id(table), NELQUBAT_REFUSED_MEMORY);
         restore_both();
     }
     start_both();
@@ -534,7 +549,7 @@ static void refused(unsigned got, unsigned constant, unsigned number, const char
 static unsigned packets(const uint8_t *bytes, size_t n)
 {
     uint32_t answer;
-    nelqubat_start(handle, sizeof handle, table, sizeof table);
+    nelqubat_start(handle, sizeof handle, table, sizeof table, id_index, sizeof id_index);
     do {
         answer = step(bytes, n);
         bytes += nelqubat_taken(answer);
@@ -575,28 +590,24 @@ static void test_full_table(void)
     refused(nelqubat_refusal(answer), NELQUBAT_REFUSED_FULL, 16, "full");
 }
 
-static unsigned restored(size_t n)
-{
-    return nelqubat_refusal(nelqubat_restore(handle, sizeof handle, table, sizeof table, image, n));
-}
-
 static void test_call_refusals(void)
 {
     struct bytes sealed = {image, NELQUBAT_BLOCK_BYTES, sizeof image};
     uint32_t answer;
-    refused(nelqubat_start(handle, sizeof handle - 1, table, sizeof table), NELQUBAT_REFUSED_MEMORY, 20, "memory");
+    answer = nelqubat_start(handle, sizeof handle - 1, table, sizeof table, id_index, sizeof id_index);
+    refused(nelqubat_refusal(answer), NELQUBAT_REFUSED_MEMORY, 20, "memory");
     start_both();
     answer = nelqubat_save(handle, sizeof handle, table, sizeof table, image, sizeof image);
     EQUAL(nelqubat_written(answer), NELQUBAT_BLOCK_BYTES);
-    refused(restored(1), NELQUBAT_REFUSED_IMAGE_LENGTH, 21, "length");
+    refused(nelqubat_refusal(restore(1)), NELQUBAT_REFUSED_IMAGE_LENGTH, 21, "length");
     image[100] = 1;
-    refused(restored(sealed.n), NELQUBAT_REFUSED_CHECK, 22, "check");
+    refused(nelqubat_refusal(restore(sealed.n)), NELQUBAT_REFUSED_CHECK, 22, "check");
     image[1] = 1;
     seal_image(&sealed);
-    refused(restored(sealed.n), NELQUBAT_REFUSED_HEAD, 23, "head");
+    refused(nelqubat_refusal(restore(sealed.n)), NELQUBAT_REFUSED_HEAD, 23, "head");
     image[1] = 0;
     seal_image(&sealed);
-    refused(restored(sealed.n), NELQUBAT_REFUSED_CONTENTS, 24, "contents");
+    refused(nelqubat_refusal(restore(sealed.n)), NELQUBAT_REFUSED_CONTENTS, 24, "contents");
     answer = nelqubat_save(handle, sizeof handle, table, sizeof table, image, 511);
     refused(nelqubat_refusal(answer), NELQUBAT_REFUSED_SHORT, 25, "too short");
     memset(record, 0, sizeof record);
@@ -609,17 +620,36 @@ static void test_run_refusals(void)
 {
     uint64_t answer;
     packets(LITERAL(LOGIN));
-    answer = nelqubat_run(handle, sizeof handle, table, sizeof table, LITERAL(DIRECTORY BID), NELQUBAT_MAX_PACKETS + 1);
+    answer = run(sizeof handle, LITERAL(DIRECTORY BID), NELQUBAT_MAX_PACKETS + 1);
     refused(nelqubat_run_refusal(answer), NELQUBAT_REFUSED_CEILING, 27, "ceiling");
     EQUAL(answer, 27 + 256 * NELQUBAT_REFUSED);
-    answer = nelqubat_run(handle, sizeof handle - 1, table, sizeof table, LITERAL(DIRECTORY BID), UINT32_MAX);
+    answer = run(sizeof handle - 1, LITERAL(DIRECTORY BID), UINT32_MAX);
     EQUAL(answer, NELQUBAT_REFUSED_MEMORY + 256 * NELQUBAT_REFUSED);
-    answer = nelqubat_run(handle, sizeof handle, table, sizeof table, LITERAL(DIRECTORY BID), NELQUBAT_MAX_PACKETS);
+    answer = run(sizeof handle, LITERAL(DIRECTORY BID), NELQUBAT_MAX_PACKETS);
     EQUAL(nelqubat_run_refusal(answer), NELQUBAT_REFUSED_NOT_TRADING);
     EQUAL(nelqubat_run_why(answer), NELQUBAT_REFUSED);
     EQUAL(nelqubat_run_finished(answer), 1);
     EQUAL(nelqubat_run_taken(answer), sizeof DIRECTORY BID - 1);
     EQUAL(nelqubat_handle_rows(handle), 1);
+}
+
+/* A place that names no row in use: the call is refused, and once the index is
+ * true the same packet is taken. */
+static void test_false_index(void)
+{
+    uint64_t answer;
+    packets(LITERAL(LOGIN DIRECTORY));
+    id_index[1] = 1;
+    find_nothing(sizeof id_index, 7, NELQUBAT_REFUSED_MEMORY);
+    refused(nelqubat_refusal(step(LITERAL(DIRECTORY))), NELQUBAT_REFUSED_MEMORY, 20, "false index");
+    answer = run(sizeof handle, LITERAL("\x00\x01" "H" DIRECTORY), 5);
+    EQUAL(nelqubat_run_refusal(answer), NELQUBAT_REFUSED_MEMORY);
+    EQUAL(nelqubat_run_why(answer), NELQUBAT_REFUSED);
+    EQUAL(nelqubat_run_finished(answer), 1);
+    EQUAL(nelqubat_run_taken(answer), 3);
+    EQUAL(nelqubat_handle_refusal(handle), NELQUBAT_DONE);
+    id_index[1] = 0;
+    EQUAL(nelqubat_kind(step(LITERAL(DIRECTORY))), NELQUBAT_MESSAGE);
 }
 
 static void test_names(void)
@@ -645,6 +675,7 @@ int main(void)
     test_full_table();
     test_call_refusals();
     test_run_refusals();
+    test_false_index();
     test_names();
     printf("header: all %lu checks hold\n", checks);
     return fflush(stdout) == 0 ? 0 : 1;

@@ -225,7 +225,8 @@ static void count_quote(struct met *m, uint32_t id, bool taken, const struct wor
 {
     const uint8_t *handle = plain->handle + GUARD_BYTES, *table = plain->table + GUARD_BYTES;
     const uint8_t *row = nelqubat_found_row(
-        table, oracle_find(handle, NELQUBAT_HANDLE_BYTES, table, NELQUBAT_TABLE_BYTES, id));
+        table, oracle_find(handle, NELQUBAT_HANDLE_BYTES, table, NELQUBAT_TABLE_BYTES,
+                           plain->index + GUARD_BYTES, NELQUBAT_INDEX_BYTES, id));
     enum met_quote quote = MET_TAKEN;
     if (row == NULL)
         return;

@@ -235,13 +235,14 @@ static bool unpack_record(const uint8_t *record, struct plain_message *m)
 /* The functions. */
 
 uint32_t oracle_start(uint8_t *handle, size_t handle_n,
-                      uint8_t *table, size_t table_n)
+                      uint8_t *table, size_t table_n,
+                      uint8_t *index, size_t index_n)
 {
     struct plain_reader r;
     int refusal;
     if (handle_n != NELQUBAT_HANDLE_BYTES)
         return 20;
-    refusal = plain_start(&r, table, table_n);
+    refusal = plain_start(&r, table, table_n, index, index_n);
     oracle_pack_handle(&r, handle);
     return (uint32_t)refusal;
 }
@@ -277,6 +278,7 @@ static unsigned tell_event(const struct plain_reader *r,
 
 uint32_t oracle_step(uint8_t *handle, size_t handle_n,
                      uint8_t *table, size_t table_n,
+                     uint8_t *index, size_t index_n,
                      const uint8_t *piece, size_t piece_n,
                      uint8_t *event, size_t event_n)
 {
@@ -286,7 +288,7 @@ uint32_t oracle_step(uint8_t *handle, size_t handle_n,
     if (event_n != NELQUBAT_RECORD_BYTES || !unpack_handle(handle, handle_n, &r))
         return step_answer(20, NELQUBAT_REFUSED, 0);
     held = r.used;
-    plain_step(&r, table, table_n, piece, piece_n, &a);
+    plain_step(&r, table, table_n, index, index_n, piece, piece_n, &a);
     if (a.refusal == 20)
         return step_answer(20, NELQUBAT_REFUSED, 0);
     pack_fields(&r, handle);
@@ -311,16 +313,18 @@ static uint64_t run_answer(const struct plain_ran *ran)
 }
 
 /* The plain reader completes a packet in its held places; a handle keeps them,
- * but for the bytes that are held in the end. */
+ * but for the bytes that are held in the end. A refused call that finished nothing
+ * leaves the handle; 20 may also come behind packets that were finished. */
 uint64_t oracle_run(uint8_t *handle, size_t handle_n,
                     uint8_t *table, size_t table_n,
+                    uint8_t *index, size_t index_n,
                     const uint8_t *piece, size_t piece_n, uint32_t ceiling)
 {
     struct plain_reader r;
     struct plain_ran ran = {PLAIN_RAN_REFUSED, 20, 0, 0};
     if (unpack_handle(handle, handle_n, &r))
-        ran = plain_run(&r, table, table_n, piece, piece_n, ceiling);
-    if (ran.refusal == 20 || ran.refusal == 27)
+        ran = plain_run(&r, table, table_n, index, index_n, piece, piece_n, ceiling);
+    if (ran.refusal >= 20 && ran.finished == 0)
         return run_answer(&ran);
     pack_fields(&r, handle);
     if (ran.why == PLAIN_RAN_OUT)
@@ -343,13 +347,14 @@ uint32_t oracle_save(const uint8_t *handle, size_t handle_n,
 
 uint32_t oracle_restore(uint8_t *handle, size_t handle_n,
                         uint8_t *table, size_t table_n,
+                        uint8_t *index, size_t index_n,
                         const uint8_t *image, size_t image_n)
 {
     struct plain_reader r;
     int refusal;
     if (handle_n != NELQUBAT_HANDLE_BYTES)
         return 20;
-    refusal = plain_restore(&r, table, table_n, image, image_n);
+    refusal = plain_restore(&r, table, table_n, index, index_n, image, image_n);
     oracle_pack_handle(&r, handle);
     return (uint32_t)refusal;
 }
@@ -428,11 +433,13 @@ uint32_t oracle_line(const uint8_t *handle, size_t handle_n,
 }
 
 uint32_t oracle_find(const uint8_t *handle, size_t handle_n,
-                     const uint8_t *table, size_t table_n, uint32_t id)
+                     const uint8_t *table, size_t table_n,
+                     const uint8_t *index, size_t index_n, uint32_t id)
 {
     struct plain_reader r;
     const uint8_t *row;
-    if (!unpack_handle(handle, handle_n, &r) || plain_find(&r, table, table_n, id, &row) != 0)
+    if (!unpack_handle(handle, handle_n, &r) ||
+        plain_find(&r, table, table_n, index, index_n, id, &row) != 0)
         return 20;
     return row == NULL ? 0 : (uint32_t)((row - table) / PLAIN_ROW_BYTES + 1) << 8;
 }

@@ -13,19 +13,23 @@ void oracle_pack_handle(const struct plain_reader *r, uint8_t *handle);
 void oracle_pack_record(const struct plain_message *m, uint8_t *record);
 
 uint32_t oracle_start(uint8_t *handle, size_t handle_n,
-                      uint8_t *table, size_t table_n);
+                      uint8_t *table, size_t table_n,
+                      uint8_t *index, size_t index_n);
 uint32_t oracle_step(uint8_t *handle, size_t handle_n,
                      uint8_t *table, size_t table_n,
+                     uint8_t *index, size_t index_n,
                      const uint8_t *piece, size_t piece_n,
                      uint8_t *event, size_t event_n);
 uint64_t oracle_run(uint8_t *handle, size_t handle_n,
                     uint8_t *table, size_t table_n,
+                    uint8_t *index, size_t index_n,
                     const uint8_t *piece, size_t piece_n, uint32_t ceiling);
 uint32_t oracle_save(const uint8_t *handle, size_t handle_n,
                      const uint8_t *table, size_t table_n,
                      uint8_t *out, size_t out_n);
 uint32_t oracle_restore(uint8_t *handle, size_t handle_n,
                         uint8_t *table, size_t table_n,
+                        uint8_t *index, size_t index_n,
                         const uint8_t *image, size_t image_n);
 uint32_t oracle_read(const uint8_t *bytes, size_t bytes_n,
                      uint8_t *record, size_t record_n);
@@ -35,6 +39,7 @@ uint32_t oracle_line(const uint8_t *handle, size_t handle_n,
                      const uint8_t *table, size_t table_n,
                      size_t k, uint8_t *out, size_t out_n);
 uint32_t oracle_find(const uint8_t *handle, size_t handle_n,
-                     const uint8_t *table, size_t table_n, uint32_t id);
+                     const uint8_t *table, size_t table_n,
+                     const uint8_t *index, size_t index_n, uint32_t id);
 
 #endif

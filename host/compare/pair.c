@@ -10,8 +10,8 @@
 #include <string.h>
 
 /* What is compared when. After every call: every bit of the answer, and every
- * byte of the handle's, event's, record's and output's memory with the guards
- * around them. The table: whole, guards included, after every start, restore and
+ * byte of the handle's, index's, event's, record's and output's memory with the
+ * guards around them. The table: whole, guards included, after every start, restore and
  * run, after every call of a thorough case (as are all replayed and shrunk
  * ones), and otherwise after every 64th step and at the end of each case; in
  * between, after each step, the first sixteen rows in use and the guards. A run
@@ -21,7 +21,7 @@ enum { WHOLE_EVERY = 64, ROWS_EACH_STEP = 16 };
 enum { GUARD_FILL = 0xA5, MEMORY_FILL = 0xC3 };
 
 static const char *const names[OPERATIONS] = {
-    "start", "step", "feed", "run", "turns", "save", "restore", "resume", "read", "write", "line", "find"};
+    "start", "step", "feed", "run", "turns", "save", "restore", "resume", "read", "write", "line", "find", "spoil"};
 
 const char *operation_name(enum operation op)
 {
@@ -30,7 +30,7 @@ const char *operation_name(enum operation op)
 
 struct call usual_call(enum operation op)
 {
-    struct call c = {op, NELQUBAT_HANDLE_BYTES, NELQUBAT_TABLE_BYTES,
+    struct call c = {op, NELQUBAT_HANDLE_BYTES, NELQUBAT_TABLE_BYTES, NELQUBAT_INDEX_BYTES,
                      NELQUBAT_RECORD_BYTES, 0, 0};
     if (op == CALL_SAVE || op == CALL_RESUME)
         c.memory_n = NELQUBAT_IMAGE_BYTES;
@@ -45,6 +45,7 @@ static bool writes_image(enum operation op)
 bool call_fits(const struct call *c)
 {
     return c->op < OPERATIONS && c->handle_n <= HANDLE_ROOM && c->table_n <= TABLE_ROOM &&
+           c->index_n <= INDEX_ROOM &&
            c->memory_n <= (writes_image(c->op) ? IMAGE_ROOM : SMALL_ROOM) &&
            c->input_n <= INPUT_ROOM;
 }
@@ -59,22 +60,23 @@ static void fill_memory(uint8_t *memory, size_t room, const uint8_t *bytes)
     memset(memory + GUARD_BYTES + room, GUARD_FILL, GUARD_BYTES);
 }
 
-static void fill_world(struct world *w, const uint8_t *handle,
-                       const uint8_t *table, bool image)
+static void fill_world(struct world *w, const uint8_t *handle, const uint8_t *table,
+                       const uint8_t *index, bool image)
 {
     fill_memory(w->handle, HANDLE_ROOM, handle);
     fill_memory(w->table, TABLE_ROOM, table);
+    fill_memory(w->index, INDEX_ROOM, index);
     fill_memory(w->small, SMALL_ROOM, NULL);
     if (image)
         fill_memory(w->image, IMAGE_ROOM, NULL);
 }
 
 void pair_fill(struct pair *p, const uint8_t *handle, const uint8_t *table,
-               bool saves)
+               const uint8_t *index, bool saves)
 {
     bool image = saves || p->image_used;
-    fill_world(&p->library, handle, table, image);
-    fill_world(&p->plain, handle, table, image);
+    fill_world(&p->library, handle, table, index, image);
+    fill_world(&p->plain, handle, table, index, image);
     p->image_used = saves;
     p->since = 0;
     p->idle = 0;
@@ -131,10 +133,12 @@ static bool same_table(struct pair *p, enum operation op)
     return op != CALL_STEP || same_rows(p);
 }
 
-static bool same_handle_and_small(struct pair *p)
+static bool same_small_memories(struct pair *p)
 {
     return same_memory(p, "handle", p->library.handle, p->plain.handle,
                        sizeof p->plain.handle) &&
+           same_memory(p, "index", p->library.index, p->plain.index,
+                       sizeof p->plain.index) &&
            same_memory(p, "event, record or output", p->library.small, p->plain.small,
                        sizeof p->plain.small);
 }
@@ -147,23 +151,25 @@ static bool same_image(struct pair *p)
 
 bool pair_same(struct pair *p)
 {
-    return same_handle_and_small(p) && same_whole_table(p) && same_image(p);
+    return same_small_memories(p) && same_whole_table(p) && same_image(p);
 }
 
 static uint64_t make_call(const struct calls *f, struct world *w,
                           const struct call *c, const uint8_t *input, size_t n)
 {
     uint8_t *handle = w->handle + GUARD_BYTES, *table = w->table + GUARD_BYTES;
+    uint8_t *index = w->index + GUARD_BYTES;
     uint8_t *small = w->small + GUARD_BYTES, *image = w->image + GUARD_BYTES;
     switch (c->op) {
     case CALL_START:
-        return f->start(handle, c->handle_n, table, c->table_n);
+        return f->start(handle, c->handle_n, table, c->table_n, index, c->index_n);
     case CALL_RUN:
-        return f->run(handle, c->handle_n, table, c->table_n, input, n, (uint32_t)c->k);
+        return f->run(handle, c->handle_n, table, c->table_n, index, c->index_n, input, n,
+                      (uint32_t)c->k);
     case CALL_SAVE:
         return f->save(handle, c->handle_n, table, c->table_n, image, c->memory_n);
     case CALL_RESTORE:
-        return f->restore(handle, c->handle_n, table, c->table_n, input, n);
+        return f->restore(handle, c->handle_n, table, c->table_n, index, c->index_n, input, n);
     case CALL_READ:
         return f->read(input, n, small, c->memory_n);
     case CALL_WRITE:
@@ -172,10 +178,11 @@ static uint64_t make_call(const struct calls *f, struct world *w,
         return f->line(handle, c->handle_n, table, c->table_n, (size_t)c->k, small,
                        c->memory_n);
     case CALL_FIND:
-        return f->find(handle, c->handle_n, table, c->table_n, (uint32_t)c->k);
+        return f->find(handle, c->handle_n, table, c->table_n, index, c->index_n,
+                       (uint32_t)c->k);
     default:
-        return f->step(handle, c->handle_n, table, c->table_n, input, n, small,
-                       c->memory_n);
+        return f->step(handle, c->handle_n, table, c->table_n, index, c->index_n, input, n,
+                       small, c->memory_n);
     }
 }
 
@@ -190,10 +197,11 @@ static bool same_answer(struct pair *p, uint64_t got, uint64_t wanted)
 }
 
 /* How many packets came to their end in a step or a run, by acceptance or
- * refusal. */
+ * refusal; a refused call leaves its packet. */
 static unsigned packets_ended(enum operation op, uint64_t answer)
 {
-    bool refuses = nelqubat_run_why(answer) == NELQUBAT_REFUSED;
+    bool refuses = nelqubat_run_why(answer) == NELQUBAT_REFUSED &&
+                   nelqubat_run_refusal(answer) < NELQUBAT_REFUSED_MEMORY;
     if (op == CALL_STEP)
         return nelqubat_kind((uint32_t)answer) != NELQUBAT_MORE && nelqubat_taken((uint32_t)answer) != 0;
     if (op == CALL_RUN)
@@ -205,6 +213,7 @@ static void copy_reader(struct world *to, const struct world *from)
 {
     memcpy(to->handle, from->handle, sizeof to->handle);
     memcpy(to->table, from->table, sizeof to->table);
+    memcpy(to->index, from->index, sizeof to->index);
 }
 
 /* A run must answer and leave what the library's own steps do. */
@@ -212,11 +221,14 @@ static bool same_as_steps(struct pair *p, const struct call *c, const uint8_t *i
                           uint64_t got)
 {
     uint64_t wanted = stepped_run(&library_calls, p->stepped.handle + GUARD_BYTES, c->handle_n,
-                                  p->stepped.table + GUARD_BYTES, c->table_n, input, n,
+                                  p->stepped.table + GUARD_BYTES, c->table_n,
+                                  p->stepped.index + GUARD_BYTES, c->index_n, input, n,
                                   (uint32_t)c->k);
     return same_answer(p, got, wanted) &&
            same_memory(p, "handle, beside steps,", p->library.handle, p->stepped.handle,
                        sizeof p->stepped.handle) &&
+           same_memory(p, "index, beside steps,", p->library.index, p->stepped.index,
+                       sizeof p->stepped.index) &&
            same_memory(p, "table, beside steps,", p->library.table, p->stepped.table,
                        sizeof p->stepped.table);
 }
@@ -238,7 +250,7 @@ static bool call_both(struct pair *p, const struct call *c, const uint8_t *libra
     p->packets += packets_ended(c->op, p->answer);
     if (c->op == CALL_SAVE)
         p->saved = nelqubat_written((uint32_t)p->answer);
-    return same_answer(p, got, p->answer) && same_handle_and_small(p) &&
+    return same_answer(p, got, p->answer) && same_small_memories(p) &&
            same_table(p, c->op) && (c->op != CALL_SAVE || same_image(p)) &&
            (c->op != CALL_RUN || same_as_steps(p, c, library_input, n, got));
 }
@@ -273,6 +285,42 @@ static bool advance(struct pair *p, enum operation op, const struct call *c, con
     return true;
 }
 
+/* The plain reader's rows in use, or 0 where no table has so many. */
+static uint32_t rows_in_use(const struct pair *p)
+{
+    size_t rows = nelqubat_handle_rows(p->plain.handle + GUARD_BYTES);
+    return rows <= NELQUBAT_MAX_ROWS ? (uint32_t)rows : 0;
+}
+
+static void spoil(struct pair *p, uint64_t how)
+{
+    struct dice d = dice_seeded(how);
+    enum index_damage kind = (enum index_damage)dice_below(&d, INDEX_DAMAGES);
+    damage_index(&d, kind, rows_in_use(p), p->plain.index + GUARD_BYTES);
+    memcpy(p->library.index, p->plain.index, sizeof p->library.index);
+}
+
+/* Makes both indexes true; false where they are so already. */
+static bool mend(struct pair *p)
+{
+    uint8_t *index = p->plain.index + GUARD_BYTES, sorted[NELQUBAT_INDEX_BYTES];
+    make_index(p->plain.table + GUARD_BYTES, rows_in_use(p), sorted);
+    if (memcmp(index, sorted, sizeof sorted) == 0)
+        return false;
+    memcpy(index, sorted, sizeof sorted);
+    memcpy(p->library.index, p->plain.index, sizeof p->library.index);
+    return true;
+}
+
+/* Whether a step is to be followed by one more on the same piece: it told an event,
+ * or was refused with 20 over an index that is mended now. */
+static bool goes_on(struct pair *p)
+{
+    uint32_t answer = (uint32_t)p->answer;
+    return nelqubat_is_event(answer) ||
+           (nelqubat_refusal(answer) == NELQUBAT_REFUSED_MEMORY && mend(p));
+}
+
 /* Steps through a piece, or makes a run and a step in turn, until a step tells no
  * event. A reader that takes no more is asked twice more; later pieces are
  * passed over. */
@@ -287,7 +335,7 @@ static bool feed(struct pair *p, const struct call *c, const uint8_t *input)
         if ((c->op == CALL_TURNS && !advance(p, CALL_RUN, c, input, &at)) ||
             !advance(p, CALL_STEP, c, input, &at))
             return false;
-    } while (nelqubat_is_event((uint32_t)p->answer));
+    } while (goes_on(p));
     if (nelqubat_kind((uint32_t)p->answer) != NELQUBAT_MORE)
         p->idle++;
     return same_input(p, input, c->input_n);
@@ -322,6 +370,10 @@ bool pair_call(struct pair *p, const struct call *c, const uint8_t *input)
         return feed(p, c, input);
     if (c->op == CALL_RESUME)
         return resume(p, c);
+    if (c->op == CALL_SPOIL) {
+        spoil(p, c->k);
+        return true;
+    }
     if (c->op == CALL_START || c->op == CALL_RESTORE)
         p->idle = 0;
     return call_once(p, c, input);
@@ -332,12 +384,14 @@ bool pair_sizes(struct pair *p)
 {
     if (nelqubat_handle_size() == NELQUBAT_HANDLE_BYTES &&
         nelqubat_table_size() == NELQUBAT_TABLE_BYTES &&
+        nelqubat_index_size() == NELQUBAT_INDEX_BYTES &&
         nelqubat_record_size() == NELQUBAT_RECORD_BYTES)
         return true;
     snprintf(p->difference, sizeof p->difference,
-             "the library's sizes are %zu, %zu, %zu, should be %d, %d, %d",
-             nelqubat_handle_size(), nelqubat_table_size(), nelqubat_record_size(),
-             NELQUBAT_HANDLE_BYTES, NELQUBAT_TABLE_BYTES, NELQUBAT_RECORD_BYTES);
+             "the library's sizes are %zu, %zu, %zu, %zu, should be %d, %d, %d, %d",
+             nelqubat_handle_size(), nelqubat_table_size(), nelqubat_index_size(),
+             nelqubat_record_size(), NELQUBAT_HANDLE_BYTES, NELQUBAT_TABLE_BYTES,
+             NELQUBAT_INDEX_BYTES, NELQUBAT_RECORD_BYTES);
     return false;
 }
 #endif

@@ -14,17 +14,19 @@ enum {
     SPARE_BYTES = 200,
     HANDLE_ROOM = NELQUBAT_HANDLE_BYTES + SPARE_BYTES,
     TABLE_ROOM = NELQUBAT_TABLE_BYTES + SPARE_BYTES,
+    INDEX_ROOM = NELQUBAT_INDEX_BYTES + SPARE_BYTES,
     SMALL_ROOM = NELQUBAT_RECORD_BYTES + SPARE_BYTES, /* event, record, line, message */
     IMAGE_ROOM = NELQUBAT_IMAGE_BYTES + SPARE_BYTES,  /* where a table is saved */
     INPUT_ROOM = 1 << 18                              /* the longest input */
 };
 
 /* The calls. `feed` steps through its input until the reader wants more, has
- * ended or refuses; `turns` does so by a run and a step in turn. `resume` saves,
- * restores what was saved and logs in again. */
+ * ended or refuses; `turns` does so by a run and a step in turn; where an index
+ * leads astray, both mend it and go on. `resume` saves, restores what was saved and
+ * logs in again. `spoil` makes both indexes false, in the same way. */
 enum operation {
     CALL_START, CALL_STEP, CALL_FEED, CALL_RUN, CALL_TURNS, CALL_SAVE, CALL_RESTORE,
-    CALL_RESUME, CALL_READ, CALL_WRITE, CALL_LINE, CALL_FIND,
+    CALL_RESUME, CALL_READ, CALL_WRITE, CALL_LINE, CALL_FIND, CALL_SPOIL,
     OPERATIONS
 };
 
@@ -34,10 +36,10 @@ const char *operation_name(enum operation op);
  * a piece, an image, a message's bytes or a record. */
 struct call {
     enum operation op;
-    uint32_t handle_n, table_n;
+    uint32_t handle_n, table_n, index_n;
     uint32_t memory_n; /* event, record or out memory */
     uint32_t input_n;
-    uint64_t k; /* the line or the id that is asked for, or a run's ceiling */
+    uint64_t k; /* the line or the id that is asked for, a run's ceiling, or how to spoil */
 };
 
 /* A call that lends every memory with its right length, and much for output. */
@@ -49,6 +51,7 @@ bool call_fits(const struct call *c);
 struct world {
     uint8_t handle[GUARD_BYTES + HANDLE_ROOM + GUARD_BYTES];
     uint8_t table[GUARD_BYTES + TABLE_ROOM + GUARD_BYTES];
+    uint8_t index[GUARD_BYTES + INDEX_ROOM + GUARD_BYTES];
     uint8_t small[GUARD_BYTES + SMALL_ROOM + GUARD_BYTES];
     uint8_t image[GUARD_BYTES + IMAGE_ROOM + GUARD_BYTES];
 };
@@ -108,10 +111,11 @@ struct pair {
     char difference[200];       /* the first difference, in words */
 };
 
-/* Gives both worlds the same memory: handle and table as they are given (with
- * HANDLE_ROOM and TABLE_ROOM bytes), all else filled with fixed bytes. */
+/* Gives both worlds the same memory: handle, table and index as they are given
+ * (with HANDLE_ROOM, TABLE_ROOM and INDEX_ROOM bytes), all else filled with fixed
+ * bytes. */
 void pair_fill(struct pair *p, const uint8_t *handle, const uint8_t *table,
-               bool saves);
+               const uint8_t *index, bool saves);
 
 /* Makes one call on both and compares: false on a difference. */
 bool pair_call(struct pair *p, const struct call *c, const uint8_t *input);

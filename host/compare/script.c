@@ -7,6 +7,7 @@ void script_clear(struct script *s)
 {
     memset(s->handle, 0, sizeof s->handle);
     memset(s->table, 0, sizeof s->table);
+    memset(s->index, 0, sizeof s->index);
     s->calls_n = 0;
     s->input_n = 0;
     s->thorough = false;
@@ -35,7 +36,7 @@ bool script_run(const struct script *s, struct pair *p)
 {
     const uint8_t *input = s->input;
     p->thorough = s->thorough;
-    pair_fill(p, s->handle, s->table, saves(s));
+    pair_fill(p, s->handle, s->table, s->index, saves(s));
     for (size_t i = 0; i < s->calls_n; i++) {
         if (!pair_call(p, &s->calls[i], input))
             return false;
@@ -50,6 +51,7 @@ static void copy_script(struct script *to, const struct script *from)
 {
     memcpy(to->handle, from->handle, sizeof to->handle);
     memcpy(to->table, from->table, sizeof to->table);
+    memcpy(to->index, from->index, sizeof to->index);
     memcpy(to->calls, from->calls, from->calls_n * sizeof *from->calls);
     memcpy(to->input, from->input, from->input_n);
     to->calls_n = from->calls_n;
@@ -116,7 +118,8 @@ static bool drop_calls(struct script *s, struct script *spare, struct pair *p)
 static bool joinable(const struct call *a, const struct call *b)
 {
     return (a->op == CALL_FEED || a->op == CALL_TURNS) && a->op == b->op && a->k == b->k &&
-           a->handle_n == b->handle_n && a->table_n == b->table_n && a->memory_n == b->memory_n;
+           a->handle_n == b->handle_n && a->table_n == b->table_n && a->index_n == b->index_n &&
+           a->memory_n == b->memory_n;
 }
 
 /* Joins every two pieces that follow each other. */
@@ -237,7 +240,7 @@ void script_shrink(struct script *s, struct script *spare, struct pair *p)
 
 /* Files: a line for each part, bytes in hexadecimal, `-` for none. */
 
-static const char title[] = "nelqubat case 1";
+static const char title[] = "nelqubat case 2";
 
 static void write_hex(FILE *f, const uint8_t *bytes, size_t n)
 {
@@ -267,8 +270,9 @@ static void write_calls(FILE *f, const struct script *s)
     const uint8_t *input = s->input;
     for (size_t i = 0; i < s->calls_n; i++) {
         const struct call *c = &s->calls[i];
-        fprintf(f, "%s %u %u %u %llu", operation_name(c->op), (unsigned)c->handle_n,
-                (unsigned)c->table_n, (unsigned)c->memory_n, (unsigned long long)c->k);
+        fprintf(f, "%s %u %u %u %u %llu", operation_name(c->op), (unsigned)c->handle_n,
+                (unsigned)c->table_n, (unsigned)c->index_n, (unsigned)c->memory_n,
+                (unsigned long long)c->k);
         write_hex(f, input, c->input_n);
         input += c->input_n;
     }
@@ -283,8 +287,11 @@ bool script_write(const struct script *s, const char *path, const char *remark)
     f = fopen(temporary, "w");
     if (f == NULL)
         return false;
-    fprintf(f, "%s\n# %s\n# CALL HANDLE-LENGTH TABLE-LENGTH MEMORY-LENGTH LINE-ID-OR-CEILING INPUT\nhandle", title, remark);
+    fprintf(f, "%s\n# %s\n# CALL HANDLE-LENGTH TABLE-LENGTH INDEX-LENGTH MEMORY-LENGTH LINE-ID-CEILING-OR-HOW INPUT\nhandle",
+            title, remark);
     write_hex(f, s->handle, sizeof s->handle);
+    fputs("index", f);
+    write_hex(f, s->index, sizeof s->index);
     write_table(f, s->table);
     write_calls(f, s);
     good = fflush(f) == 0 && !ferror(f);
@@ -328,19 +335,19 @@ static bool skip_line(FILE *f)
 
 static bool read_call(FILE *f, const char *word, struct script *s)
 {
-    struct call c = {CALL_START, 0, 0, 0, 0, 0};
-    unsigned handle_n, table_n, memory_n, op = 0;
+    struct call c;
+    unsigned handle_n, table_n, index_n, memory_n, op = 0;
     unsigned long long k;
     long n;
     while (op < OPERATIONS && strcmp(word, operation_name((enum operation)op)) != 0)
         op++;
     if (op == OPERATIONS || s->calls_n == MAX_CALLS ||
-        fscanf(f, "%u %u %u %llu", &handle_n, &table_n, &memory_n, &k) != 4)
+        fscanf(f, "%u %u %u %u %llu", &handle_n, &table_n, &index_n, &memory_n, &k) != 5)
         return false;
     n = read_hex(f, s->input + s->input_n, INPUT_ROOM - s->input_n);
     if (n < 0)
         return false;
-    c = (struct call){(enum operation)op, handle_n, table_n, memory_n, (uint32_t)n, k};
+    c = (struct call){(enum operation)op, handle_n, table_n, index_n, memory_n, (uint32_t)n, k};
     s->input_n += (size_t)n;
     s->calls[s->calls_n++] = c;
     return call_fits(&c);
@@ -353,6 +360,8 @@ static bool read_line(FILE *f, const char *word, struct script *s)
         return skip_line(f);
     if (strcmp(word, "handle") == 0)
         return read_hex(f, s->handle, sizeof s->handle) >= 0;
+    if (strcmp(word, "index") == 0)
+        return read_hex(f, s->index, sizeof s->index) >= 0;
     if (strcmp(word, "table") == 0)
         return fscanf(f, "%lu", &at) == 1 && at < TABLE_ROOM &&
                read_hex(f, s->table + at, TABLE_ROOM - at) >= 0;

@@ -10,7 +10,7 @@ enum { MAX_CALLS = 1 << 17 };
 
 /* The inputs of all calls lie one behind the other. */
 struct script {
-    uint8_t handle[HANDLE_ROOM], table[TABLE_ROOM];
+    uint8_t handle[HANDLE_ROOM], table[TABLE_ROOM], index[INDEX_ROOM];
     struct call calls[MAX_CALLS];
     size_t calls_n;
     uint8_t input[INPUT_ROOM];
@@ -18,7 +18,7 @@ struct script {
     bool thorough;
 };
 
-/* Empties a script; handle and table are zeros. */
+/* Empties a script; handle, table and index are zeros. */
 void script_clear(struct script *s);
 
 /* Adds a call with its input; one that does not fit is left out. */

@@ -7,6 +7,7 @@
 
 uint64_t stepped_run(const struct calls *f, uint8_t *handle, size_t handle_n,
                      uint8_t *table, size_t table_n,
+                     uint8_t *index, size_t index_n,
                      const uint8_t *piece, size_t piece_n, uint32_t ceiling);
 
 #endif

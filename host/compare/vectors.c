@@ -25,16 +25,16 @@ struct memory {
     uint8_t bytes[ROOM];
 };
 
-/* The memories that a text can name, and those beside them. */
-enum place { HANDLE, TABLE, EVENT, RECORD, IMAGE, OUT, SPARE, NAMED, GIVEN = NAMED, PLACES };
+/* The memories that a text can name, those of a reader first, and those beside them. */
+enum place { HANDLE, TABLE, INDEX, READER, EVENT = READER, RECORD, IMAGE, OUT, SPARE, NAMED, GIVEN = NAMED, PLACES };
 
 static const char *const memory_names[NAMED] = {
-    "handle", "table", "event", "record", "image", "out", "spare"};
+    "handle", "table", "index", "event", "record", "image", "out", "spare"};
 
 static const struct calls *calls;
 static struct memory memories[PLACES];
-static struct memory kept[2];  /* handle and table that a case starts from */
-static struct memory whole[2]; /* those that a run in one piece left */
+static struct memory kept[READER];  /* handle, table and index that a case starts from */
+static struct memory whole[READER]; /* those that a run in one piece left */
 static uint8_t tape[LOG_ROOM], whole_tape[LOG_ROOM];
 static size_t tape_n, whole_tape_n, events;
 
@@ -321,25 +321,29 @@ static unsigned kind_of(uint32_t answer)
 
 static uint32_t call_step(const uint8_t *piece, size_t n)
 {
-    struct memory *handle = &memories[HANDLE], *table = &memories[TABLE], *event = &memories[EVENT];
-    return calls->step(handle->bytes, handle->n, table->bytes, table->n, piece, n, event->bytes, event->n);
+    struct memory *handle = &memories[HANDLE], *table = &memories[TABLE], *index = &memories[INDEX];
+    struct memory *event = &memories[EVENT];
+    return calls->step(handle->bytes, handle->n, table->bytes, table->n, index->bytes, index->n, piece, n,
+                       event->bytes, event->n);
 }
 
 static uint64_t call_run(const uint8_t *piece, size_t n, uint32_t ceiling)
 {
-    struct memory *handle = &memories[HANDLE], *table = &memories[TABLE];
-    return calls->run(handle->bytes, handle->n, table->bytes, table->n, piece, n, ceiling);
+    struct memory *handle = &memories[HANDLE], *table = &memories[TABLE], *index = &memories[INDEX];
+    return calls->run(handle->bytes, handle->n, table->bytes, table->n, index->bytes, index->n, piece, n, ceiling);
 }
 
 static uint32_t call_start(void)
 {
     tape_n = events = 0;
-    return calls->start(memories[HANDLE].bytes, memories[HANDLE].n, memories[TABLE].bytes, memories[TABLE].n);
+    return calls->start(memories[HANDLE].bytes, memories[HANDLE].n, memories[TABLE].bytes, memories[TABLE].n,
+                        memories[INDEX].bytes, memories[INDEX].n);
 }
 
 static uint32_t call_restore(const uint8_t *image, size_t n)
 {
-    return calls->restore(memories[HANDLE].bytes, memories[HANDLE].n, memories[TABLE].bytes, memories[TABLE].n, image, n);
+    return calls->restore(memories[HANDLE].bytes, memories[HANDLE].n, memories[TABLE].bytes, memories[TABLE].n,
+                          memories[INDEX].bytes, memories[INDEX].n, image, n);
 }
 
 static uint32_t call_save(void)
@@ -463,6 +467,7 @@ static bool same_reader(const struct memory *a, const struct memory *b)
 static bool as_whole(void)
 {
     return same_reader(&memories[HANDLE], &whole[HANDLE]) && same(&memories[TABLE], &whole[TABLE]) &&
+           same(&memories[INDEX], &whole[INDEX]) &&
            tape_n == whole_tape_n && memcmp(tape, whole_tape, tape_n) == 0;
 }
 
@@ -489,6 +494,7 @@ static void do_begin(char *line)
     lay(line);
     fill_memory(&memories[HANDLE], NELQUBAT_HANDLE_BYTES, 0);
     fill_memory(&memories[TABLE], NELQUBAT_TABLE_BYTES, 0);
+    fill_memory(&memories[INDEX], NELQUBAT_INDEX_BYTES, 0);
     call_start();
     feed_given(ROOM);
     check_taken();
@@ -507,7 +513,7 @@ static void do_set(char *line)
     enum place place = next_memory(&line);
     lay(line);
     memories[place] = memories[GIVEN];
-    if (place <= TABLE)
+    if (place < READER)
         kept[place] = memories[GIVEN];
 }
 
@@ -600,7 +606,7 @@ static void do_save(char *line)
 static void do_left(char *line)
 {
     enum place place = next_memory(&line);
-    if (place > TABLE)
+    if (place >= READER)
         fault("? memory");
     else
         tell_left(memory_names[place], same(&memories[place], &kept[place]));
@@ -671,7 +677,7 @@ static void do_find(char *line)
         return;
     }
     uint32_t answer = calls->find(memories[HANDLE].bytes, memories[HANDLE].n, memories[TABLE].bytes, memories[TABLE].n,
-                                  (uint32_t)nelqubat_get(given->bytes, 4));
+                                  memories[INDEX].bytes, memories[INDEX].n, (uint32_t)nelqubat_get(given->bytes, 4));
     tell_refusal(answer, answer == 0 ? "no row" : "place ");
     if (nelqubat_found(answer))
         add("%u", (unsigned)(answer / 256));
@@ -686,6 +692,7 @@ static void do_try(char *line)
     tell_step(call_step(given->bytes, given->n));
     tell_left("handle", handle_left());
     tell_left("table", same(&memories[TABLE], &kept[TABLE]));
+    tell_left("index", same(&memories[INDEX], &kept[INDEX]));
     tell_count(memories[HANDLE].bytes[45], "stands");
     whole[HANDLE] = memories[HANDLE];
     tell("again ");
@@ -693,7 +700,8 @@ static void do_try(char *line)
     go_back();
     feed_given(1);
     tell("byte by byte ");
-    tell_same(same_reader(&memories[HANDLE], &whole[HANDLE]) && same(&memories[TABLE], &kept[TABLE]));
+    tell_same(same_reader(&memories[HANDLE], &whole[HANDLE]) && same(&memories[TABLE], &kept[TABLE]) &&
+              same(&memories[INDEX], &kept[INDEX]));
 }
 
 static void do_values(char *line)
@@ -735,7 +743,8 @@ static void do_standing(char *line)
 static bool in_order(const struct memory *fresh, const struct memory *image, unsigned found)
 {
     if (found != 0)
-        return same(&memories[HANDLE], fresh) && same(&memories[TABLE], &kept[TABLE]);
+        return same(&memories[HANDLE], fresh) && same(&memories[TABLE], &kept[TABLE]) &&
+               same(&memories[INDEX], &kept[INDEX]);
     fill_memory(&memories[OUT], image->n, 0xee);
     call_save();
     return same(&memories[OUT], image);
@@ -754,6 +763,7 @@ static void do_damaged(char *line)
         if (checked)
             put_check(image.bytes + i / 512 * 512);
         memories[TABLE] = kept[TABLE];
+        memories[INDEX] = kept[INDEX];
         unsigned number = call_restore(image.bytes, image.n) % 256;
         found += number == wanted;
         good += number == wanted && in_order(&fresh, &image, number);
@@ -837,7 +847,7 @@ static struct reached by_runs(uint32_t ceiling, bool is_one)
     return r;
 }
 
-/* Do both ways come as far, and leave every byte of handle and table the same? */
+/* Do both ways come as far, and leave every byte of handle, table and index the same? */
 static bool run_as_steps(uint32_t ceiling, bool is_one)
 {
     go_back();
@@ -846,7 +856,8 @@ static bool run_as_steps(uint32_t ceiling, bool is_one)
     go_back();
     struct reached runs = by_runs(ceiling, is_one);
     return steps.finished == runs.finished && steps.taken == runs.taken &&
-           same(&memories[HANDLE], &whole[HANDLE]) && same(&memories[TABLE], &whole[TABLE]);
+           same(&memories[HANDLE], &whole[HANDLE]) && same(&memories[TABLE], &whole[TABLE]) &&
+           same(&memories[INDEX], &whole[INDEX]);
 }
 
 static void do_runs(char *line)
@@ -872,6 +883,7 @@ static void resume(void)
     size_t n = call_save() / 256;
     fill_memory(&memories[HANDLE], NELQUBAT_HANDLE_BYTES, 0x11);
     fill_memory(&memories[TABLE], NELQUBAT_TABLE_BYTES, 0x11);
+    fill_memory(&memories[INDEX], NELQUBAT_INDEX_BYTES, 0x11);
     call_restore(memories[OUT].bytes, n);
     if (memories[HANDLE].bytes[42] != 1)
         return;
@@ -1003,6 +1015,7 @@ static bool run_text(const char *text, const struct calls *which)
     memset(memories, 0, sizeof memories);
     fill_memory(&memories[HANDLE], NELQUBAT_HANDLE_BYTES, 0);
     fill_memory(&memories[TABLE], NELQUBAT_TABLE_BYTES, 0);
+    fill_memory(&memories[INDEX], NELQUBAT_INDEX_BYTES, 0);
     fill_memory(&memories[EVENT], NELQUBAT_RECORD_BYTES, 0);
     fill_memory(&memories[RECORD], NELQUBAT_RECORD_BYTES, 0);
     keep();

@@ -66,9 +66,9 @@ static bool add_sessions(void)
     return true;
 }
 
-/* The handle, table and image after some packets, with the packets that
- * follow behind them; by runs for every second file. */
-static bool add_tables(const struct plain_reader *r, const uint8_t *table, size_t at)
+/* The handle, table and index, and the image after some packets, with the packets
+ * that follow behind them; by runs for every second file. */
+static bool add_tables(const struct plain_reader *r, const uint8_t *table, const uint8_t *index, size_t at)
 {
     static uint8_t image[PLAIN_IMAGE_BYTES];
     uint8_t handle[NELQUBAT_HANDLE_BYTES];
@@ -78,6 +78,7 @@ static bool add_tables(const struct plain_reader *r, const uint8_t *table, size_
     begin((uint8_t)(2 + files % 2 * BY_RUNS), (uint8_t)(rows << 2));
     add(handle, sizeof handle);
     add(table, rows * PLAIN_ROW_BYTES);
+    add(index, rows * 2);
     add(session + at, left);
     if (!finish())
         return false;
@@ -121,17 +122,18 @@ static bool add_message(const struct plain_message *m)
  * then. */
 static bool add_steps(struct plain_reader r)
 {
-    static uint8_t table[PLAIN_TABLE_BYTES];
+    static uint8_t table[PLAIN_TABLE_BYTES], index[PLAIN_INDEX_BYTES];
     struct plain_answer a;
     unsigned seen = 0;
     size_t at = 0;
     memset(table, 0, sizeof table);
+    memset(index, 0, sizeof index);
     for (unsigned i = 0; at < session_n; i++) {
-        plain_step(&r, table, sizeof table, session + at, session_n - at, &a);
+        plain_step(&r, table, sizeof table, index, sizeof index, session + at, session_n - at, &a);
         at += a.taken;
         if (a.kind != PLAIN_EVENT)
-            return add_tables(&r, table, at);
-        if ((i & (i - 1)) == 0 && !add_tables(&r, table, at))
+            return add_tables(&r, table, index, at);
+        if ((i & (i - 1)) == 0 && !add_tables(&r, table, index, at))
             return false;
         if (a.event != PLAIN_MESSAGE || (seen >> a.message.kind & 1) != 0)
             continue;

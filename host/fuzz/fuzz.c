@@ -5,7 +5,7 @@
  * and not by steps alone, and byte 1 how; the rest is used as
  *   0  a session, stepped through in pieces
  *   1  an image that is restored, and bytes to step through after it
- *   2  a handle, rows of a table, and bytes to step through
+ *   2  a handle, rows of a table, as many places of an index, and bytes to step through
  *   3  a message to read, and a record to write
  * With FUZZ_MAIN it has a main that runs every file which is named.
  */
@@ -128,14 +128,16 @@ static void do_handle(struct rest input, unsigned how)
 {
     struct rest handle = take(&input, NELQUBAT_HANDLE_BYTES);
     struct rest rows = take(&input, NELQUBAT_ROW_BYTES * (size_t)(how >> 2));
-    struct rest none = {input.at, 0};
-    static uint8_t first_handle[HANDLE_ROOM], first_table[TABLE_ROOM];
+    struct rest places = take(&input, 2 * (size_t)(how >> 2));
+    static uint8_t first_handle[HANDLE_ROOM], first_table[TABLE_ROOM], first_index[INDEX_ROOM];
     memset(first_handle, 0, sizeof first_handle);
     memset(first_table, 0, sizeof first_table);
+    memset(first_index, 0, sizeof first_index);
     memcpy(first_handle, handle.at, handle.n);
     memcpy(first_table, rows.at, rows.n);
-    pair_fill(&pair, first_handle, first_table, true);
-    call_usual(CALL_SAVE, none);
+    memcpy(first_index, places.at, places.n);
+    pair_fill(&pair, first_handle, first_table, first_index, true);
+    call_usual(CALL_SAVE, (struct rest){input.at, 0});
     call_usual(CALL_STEP, input);
     feed(input, how);
     look(how);
@@ -155,7 +157,7 @@ static void do_message(struct rest input, unsigned how)
 
 int LLVMFuzzerTestOneInput(const uint8_t *data, size_t size)
 {
-    static const uint8_t handle[HANDLE_ROOM] = {0}, table[TABLE_ROOM] = {1, 2, 3};
+    static const uint8_t handle[HANDLE_ROOM] = {0}, table[TABLE_ROOM] = {1, 2, 3}, index[INDEX_ROOM] = {4, 5, 6};
     struct rest input = {data, size};
     unsigned how;
     if (size < 2 || size > INPUT_ROOM)
@@ -163,7 +165,7 @@ int LLVMFuzzerTestOneInput(const uint8_t *data, size_t size)
     take(&input, 2);
     how = data[1];
     pair.thorough = size < 4096;
-    pair_fill(&pair, handle, table, true);
+    pair_fill(&pair, handle, table, index, true);
     by_runs = data[0] / 4 % 2 == 1;
     switch (data[0] % 4) {
     case 0:

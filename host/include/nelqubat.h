@@ -6,11 +6,13 @@
  * installs it, and `pkg-config --cflags --libs nelqubat` then says how to link.
  *
  *   uint8_t handle[NELQUBAT_HANDLE_BYTES], table[NELQUBAT_TABLE_BYTES];
- *   uint8_t index[NELQUBAT_INDEX_BYTES], event[NELQUBAT_RECORD_BYTES];
- *   nelqubat_start(handle, sizeof handle, table, sizeof table, index, sizeof index);
+ *   uint8_t id_index[NELQUBAT_INDEX_BYTES], event[NELQUBAT_RECORD_BYTES];
+ *   nelqubat_start(handle, sizeof handle, table, sizeof table,
+ *                  id_index, sizeof id_index);
  *   for (;;) {
  *       uint32_t a = nelqubat_step(handle, sizeof handle, table, sizeof table,
- *                                  index, sizeof index, piece, n, event, sizeof event);
+ *                                  id_index, sizeof id_index,
+ *                                  piece, n, event, sizeof event);
  *       piece += nelqubat_taken(a);
  *       n -= nelqubat_taken(a);
  *       ... until nelqubat_is_event(a) is 0: more bytes wanted, ended or refused
@@ -22,7 +24,7 @@
  *   uint64_t a;
  *   do {
  *       a = nelqubat_run(handle, sizeof handle, table, sizeof table,
- *                        index, sizeof index, piece, n, 200);
+ *                        id_index, sizeof id_index, piece, n, 200);
  *       piece += nelqubat_run_taken(a);
  *       n -= nelqubat_run_taken(a);
  *       ... show the rows
@@ -137,7 +139,7 @@ static inline const char *nelqubat_refusal_name(unsigned refusal)
         "message letter is not known", "message has the wrong length",
         "message field outside its list or range", "no row has this id",
         "instrument does not trade", "directory changes a fixed field",
-        "table is full", 0, 0, 0, "memory has the wrong length or is no handle",
+        "table is full", 0, 0, 0, "memory has the wrong length, is no handle or has a false index",
         "image length is wrong", "block check is wrong", "block head is wrong",
         "contents break the row or block rules", "output memory is too short",
         "record breaks its field rules", "ceiling is over 1,000 packets"};
@@ -344,7 +346,7 @@ uint32_t nelqubat_line(const uint8_t *handle, size_t handle_n,
 /* Looks for the row of an id by the index, as a step does:
  *
  *   a = nelqubat_find(handle, sizeof handle, table, sizeof table,
- *                     index, sizeof index, id);
+ *                     id_index, sizeof id_index, id);
  *   row = nelqubat_found_row(table, a);     NULL for none
  *
  * Answer: 256 times the row's place in the table counted from 1, 0 where no row is

@@ -35,7 +35,7 @@ REFUSALS = {
     4: "packet has the wrong form", 5: "login for another session or number", 6: "no message number is left",
     10: "message letter is not known", 11: "message has the wrong length", 12: "message field outside its list or range",
     13: "no row has this id", 14: "instrument does not trade", 15: "directory changes a fixed field", 16: "table is full",
-    20: "memory has the wrong length or is no handle", 21: "image length is wrong", 22: "block check is wrong",
+    20: "memory has the wrong length, is no handle or has a false index", 21: "image length is wrong", 22: "block check is wrong",
     23: "block head is wrong", 24: "contents break the row or block rules", 25: "output memory is too short",
     26: "record breaks its field rules", 27: "ceiling is over 1,000 packets"}
 
