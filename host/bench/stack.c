@@ -121,6 +121,7 @@ static void measure_runs(struct dice *d, const struct bytes *s)
     }
 }
 
+/* Some with a full table, where a search is longest. */
 static void measure_session(struct dice *d, bool damaged)
 {
     static uint8_t space[1 << 17];
@@ -128,7 +129,7 @@ static void measure_session(struct dice *d, bool damaged)
     struct session_plan plan = random_plan(d);
     plan.first = 1;
     plan.packets %= 40;
-    plan.instruments = 1 + plan.instruments % 16;
+    plan.instruments = dice_chance(d, 10) ? NELQUBAT_MAX_ROWS : 1 + plan.instruments % 16;
     make_session(d, &plan, &s);
     s.room = sizeof space;
     if (damaged)
