@@ -34,6 +34,7 @@ static const char *const memory_names[NAMED] = {
 static const struct calls *calls;
 static struct memory memories[PLACES];
 static struct memory kept[READER];  /* handle, table and index that a case starts from */
+static struct memory begun[READER]; /* the same, without what the case sets */
 static struct memory whole[READER]; /* those that a run in one piece left */
 static uint8_t tape[LOG_ROOM], whole_tape[LOG_ROOM];
 static size_t tape_n, whole_tape_n, events;
@@ -214,6 +215,18 @@ static bool lay_plain(const char *s)
     return true;
 }
 
+/* FROM+STEP*N: so many numbers of two bytes, in a ring of 256. */
+static bool lay_ring(const char *s)
+{
+    size_t number, step, count;
+    char behind;
+    if (sscanf(s, "%zu+%zu*%zu%c", &number, &step, &count, &behind) != 3)
+        return false;
+    for (; count > 0; count--, number += step)
+        append((const uint8_t[]){0, (uint8_t)number}, 2);
+    return true;
+}
+
 /* PLACE:BYTES puts bytes in, counted from the base. */
 static bool lay_edit(char *s)
 {
@@ -296,6 +309,8 @@ static bool lay_item(char *s)
         return lay_edit(s);
     if (*s == '-' || s[strlen(s) - 1] == '-')
         return lay_drop(s);
+    if (strchr(s, '+'))
+        return lay_ring(s);
     if (strcmp(s, "checked") == 0)
         return lay_checked();
     return lay_named(s);
@@ -520,13 +535,14 @@ static void do_set(char *line)
 static void do_fill(char *line)
 {
     size_t count = next_number(&line), at = next_number(&line);
+    size_t number = next_number(&line), step = next_number(&line);
     lay(line);
     if (at + 4 > memories[GIVEN].n) {
         fault("? place");
         return;
     }
-    for (size_t i = 0; i < count; i++) {
-        nelqubat_set(memories[GIVEN].bytes + at, 4, i);
+    for (; count > 0; count--, number += step) {
+        nelqubat_set(memories[GIVEN].bytes + at, 4, number % 256);
         feed_given(ROOM);
     }
     check_taken();
@@ -971,9 +987,12 @@ static void run_case(char *s, char *sign, struct tally *t)
         fault("? answer");
     *sign = 0;
     trim(s);
+    memcpy(begun, kept, sizeof begun);
     run_commands(is_then ? s + 5 : s);
     if (is_then)
         keep();
+    else
+        memcpy(kept, begun, sizeof kept);
     written += strspn(written, " ");
     trim(written);
     t->cases++;
