@@ -67,6 +67,14 @@ static void spoil_length(struct dice *d, struct call *c)
     }
 }
 
+/* A false index from here on, in a way that the number says. */
+static void add_spoil(struct dice *d, struct script *s)
+{
+    struct call c = usual_call(CALL_SPOIL);
+    c.k = dice_next(d);
+    script_add(s, c, NULL, 0);
+}
+
 /* How a session is cut: whole, single bytes, as the network would, at random,
  * or in ever changing sizes. */
 enum cut { CUT_WHOLE, CUT_SINGLE, CUT_NETWORK, CUT_RANDOM, CUT_CHANGING };
@@ -110,12 +118,16 @@ static struct call piece_call(struct dice *d, bool by_runs)
     return c;
 }
 
+/* Now and then the index is made false between two pieces. */
 static void add_pieces(struct dice *d, const uint8_t *bytes, size_t n, bool by_runs, struct script *s)
 {
     enum cut cut = pick_cut(d, n);
+    bool spoils = dice_chance(d, 20);
     while (n > 0) {
         size_t size = piece_size(d, cut, n);
         struct call c = piece_call(d, by_runs);
+        if (spoils && dice_chance(d, 20))
+            add_spoil(d, s);
         if (dice_chance(d, 1) && dice_chance(d, 20))
             spoil_length(d, &c);
         script_add(s, c, bytes, size);
@@ -145,16 +157,18 @@ static void add_session_finds(struct dice *d, const struct bytes *session, struc
 }
 
 /* The handle that waits for the plan's login, made by start where it is
- * fresh, over a table that is not zero. */
+ * fresh, over a table that is not zero. With no row in use, an index may be any. */
 static void begin_session(struct dice *d, const struct session_plan *plan, struct script *s)
 {
     struct plain_reader r = reader_for_plan(plan);
     struct call start = usual_call(CALL_START);
     script_clear(s);
     dice_fill(d, s->handle, sizeof s->handle);
+    if (dice_chance(d, 50))
+        dice_fill(d, s->index, sizeof s->index);
     if (plan->first == 1) {
         memset(s->table, (int)dice_below(d, 256), sizeof s->table);
-        if (dice_chance(d, 5)) {
+        if (dice_chance(d, 10)) {
             spoil_length(d, &start);
             script_add(s, start, NULL, 0);
         }
@@ -353,8 +367,11 @@ void make_handle_case(struct dice *d, bool damaged, struct script *s, struct tal
     oracle_pack_handle(&r, s->handle);
     if (damaged)
         damage_handle(d, &r, s->handle);
-    for (size_t i = dice_between(d, 1, 6); i > 0; i--)
+    for (size_t i = dice_between(d, 1, 6); i > 0; i--) {
+        if (dice_chance(d, 20))
+            add_spoil(d, s);
         add_handle_call(d, &r, s);
+    }
     if (dice_chance(d, 10))
         add_repeated_id(d, &r, s);
     s->thorough = dice_chance(d, 20);
@@ -372,6 +389,116 @@ void make_quote_case(struct dice *d, bool damaged, struct script *s, struct tall
     make_index(s->table, r.rows, s->index);
     oracle_pack_handle(&r, s->handle);
     add_pieces(d, quote.at, quote.n, false, s);
+    t->handles++;
+    t->damaged += damaged;
+}
+
+/* Indexes. */
+
+/* An id beside one that is there, at an end, or any. */
+static uint32_t pick_new_id(struct dice *d, const struct plain_reader *r, uint8_t *table)
+{
+    uint32_t beside = nelqubat_row_id(pick_row(d, r, table)), any = (uint32_t)dice_next(d);
+    if (dice_chance(d, 20))
+        return dice_chance(d, 50) ? 0 : UINT32_MAX;
+    if (dice_chance(d, 20))
+        return any;
+    return dice_chance(d, 50) ? beside + 1 : beside - 1;
+}
+
+static void put_newcomer(struct dice *d, const struct plain_reader *r, uint8_t *table, struct bytes *s)
+{
+    struct plain_message m;
+    make_message(d, PLAIN_DIRECTORY, &m);
+    m.id = pick_new_id(d, r, table);
+    put_message(s, &m);
+}
+
+/* A packet that lists a new id, mostly so where the table is full, or speaks to some
+ * row; often to the first, which is the one that zeros name. */
+static void put_searched(struct dice *d, const struct plain_reader *r, uint8_t *table, struct bytes *s)
+{
+    struct plain_reader first = *r;
+    first.rows = r->rows < 1 ? r->rows : 1;
+    if (dice_chance(d, r->rows == NELQUBAT_MAX_ROWS ? 60 : 30))
+        put_newcomer(d, r, table, s);
+    else
+        put_packet_for(d, dice_chance(d, 50) ? &first : r, table, s);
+}
+
+/* One to three packets, read in one of four ways. */
+static void add_search(struct dice *d, const struct plain_reader *r, struct script *s)
+{
+    static const enum operation ops[] = {CALL_STEP, CALL_FEED, CALL_RUN, CALL_TURNS};
+    uint8_t space[3 * NELQUBAT_PACKET_BYTES];
+    struct bytes piece = {space, 0, sizeof space};
+    struct call c = usual_call(ops[dice_below(d, sizeof ops / sizeof *ops)]);
+    c.k = dice_between(d, 1, 4);
+    for (size_t i = dice_between(d, 1, 3); i > 0; i--)
+        put_searched(d, r, s->table, &piece);
+    if (dice_chance(d, 10))
+        c.index_n = (uint32_t)make_length(d, c.index_n);
+    script_add(s, c, piece.at, piece.n);
+}
+
+/* The start of a packet that a later call goes on with. */
+static void add_start_of_packet(struct dice *d, const struct plain_reader *r, struct script *s)
+{
+    uint8_t packet[NELQUBAT_PACKET_BYTES];
+    struct bytes piece = {packet, 0, sizeof packet};
+    size_t cut;
+    put_packet_for(d, r, s->table, &piece);
+    cut = dice_below(d, piece.n);
+    script_add(s, usual_call(CALL_STEP), piece.at, cut);
+    add_spoil(d, s);
+    script_add(s, usual_call(CALL_FEED), piece.at + cut, piece.n - cut);
+}
+
+static void add_index_find(struct dice *d, const struct plain_reader *r, struct script *s)
+{
+    struct call c = usual_call(CALL_FIND);
+    c.k = vary_id(d, nelqubat_row_id(pick_row(d, r, s->table)));
+    if (dice_chance(d, 20))
+        c.index_n = (uint32_t)make_length(d, c.index_n);
+    script_add(s, c, NULL, 0);
+}
+
+/* A reader that takes messages, often with few rows, so that a false index still
+ * finds some, and now and then with a table that is full, or has room for one. */
+static void make_searched(struct dice *d, struct plain_reader *r, uint8_t *table)
+{
+    uint32_t most = (uint32_t)dice_between(d, 1, 4), least = 0;
+    do
+        make_reader(d, true, r, table);
+    while (!r->known);
+    if (dice_chance(d, 50))
+        r->rows = r->rows < most ? r->rows : most;
+    else if (dice_chance(d, 40))
+        least = (uint32_t)dice_between(d, NELQUBAT_MAX_ROWS - 1, NELQUBAT_MAX_ROWS);
+    for (; r->rows < least; r->rows++)
+        make_row(d, (uint32_t)dice_next(d), table + NELQUBAT_ROW_BYTES * (size_t)r->rows);
+    r->logged_in = true;
+    r->used = dice_chance(d, 80) ? 0 : r->used;
+    r->next = 1 + dice_below(d, 1000);
+}
+
+void make_index_case(struct dice *d, bool damaged, struct script *s, struct tally *t)
+{
+    struct plain_reader r;
+    script_clear(s);
+    make_searched(d, &r, s->table);
+    make_index(s->table, r.rows, s->index);
+    if (damaged)
+        damage_index(d, (enum index_damage)dice_below(d, INDEX_DAMAGES), r.rows, s->index);
+    oracle_pack_handle(&r, s->handle);
+    if (dice_chance(d, 50))
+        add_index_find(d, &r, s);
+    for (size_t i = dice_between(d, 1, 4); i > 0; i--)
+        add_search(d, &r, s);
+    if (dice_chance(d, 30))
+        add_start_of_packet(d, &r, s);
+    if (dice_chance(d, 50))
+        add_index_find(d, &r, s);
     t->handles++;
     t->damaged += damaged;
 }
@@ -427,8 +554,12 @@ void make_image_case(struct dice *d, bool damaged, struct script *s, struct tall
     script_clear(s);
     dice_fill(d, s->handle, sizeof s->handle);
     memset(s->table, (int)dice_below(d, 256), sizeof s->table);
+    if (dice_chance(d, 80))
+        dice_fill(d, s->index, sizeof s->index);
     if (dice_chance(d, 10))
         spoil_length(d, &restore);
+    else if (dice_chance(d, 8))
+        restore.index_n = (uint32_t)make_length(d, restore.index_n);
     script_add(s, restore, image.at, image.n);
     if (dice_chance(d, 50))
         add_save(d, dice_chance(d, 50) ? CALL_SAVE : CALL_RESUME, s);

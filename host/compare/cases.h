@@ -24,6 +24,10 @@ void make_handle_case(struct dice *d, bool damaged, struct script *s, struct tal
  * row's state or tradable is a byte outside its list. */
 void make_quote_case(struct dice *d, bool damaged, struct script *s, struct tally *t);
 
+/* A table with a true index, or where damaged a false one, and calls that search
+ * it. */
+void make_index_case(struct dice *d, bool damaged, struct script *s, struct tally *t);
+
 /* An image restored, then stepped on from, saved and listed. */
 void make_image_case(struct dice *d, bool damaged, struct script *s, struct tally *t);
 

@@ -1,5 +1,6 @@
 /* Holds the library against the plain reader over random cases: sessions cut
- * at random, by steps and by runs, handles, images and records, true and damaged.
+ * at random, by steps and by runs, handles, indexes, images and records, true and
+ * damaged.
  *
  *   compare [SEED [ROUNDS]]    a round's seed is SEED plus its place
  *   compare --replay FILE      runs a case that was written on a difference
@@ -65,7 +66,7 @@ static bool run_cases(struct dice *d, case_maker *make, bool damaged, unsigned t
     return true;
 }
 
-/* One round: 40 damaged inputs and some eight hundred packets. */
+/* One round: 48 damaged inputs and some eight hundred packets. */
 static bool run_round(uint64_t seed)
 {
     struct dice d = dice_seeded(seed);
@@ -81,6 +82,8 @@ static bool run_round(uint64_t seed)
            run_cases(&d, make_record_case, true, 1) &&
            run_cases(&d, make_quote_case, false, 3) &&
            run_cases(&d, make_quote_case, true, 1) &&
+           run_cases(&d, make_index_case, false, 2) &&
+           run_cases(&d, make_index_case, true, 8) &&
            run_cases(&d, make_run_case, false, 1) &&
            run_cases(&d, make_run_case, true, 4);
 }

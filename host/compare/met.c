@@ -1,5 +1,6 @@
 #include "met.h"
 
+#include "met_index.h"
 #include "oracle.h"
 
 #include <stdio.h>
@@ -45,6 +46,38 @@ static const struct {
     [MET_LINE] = {"line", 3, {0, 20, 25}},
     [MET_FIND] = {"find", 2, {0, 20}},
 };
+
+static const char *const index_names[MET_INDEXES] = {"true", "past", "zeros", "twice", "order", "unused"};
+
+/* With 256 rows no place is out of use. */
+static const struct {
+    const char *name;
+    bool can[MET_INDEXES];
+} searches[MET_SEARCHES] = {
+    [MET_NEW] = {"m new", {1, 1, 1, 1, 1, 1}},
+    [MET_KNOWN] = {"m known", {1, 1, 1, 1, 1, 1}},
+    [MET_ACTION] = {"H", {1, 1, 1, 1, 1, 1}},
+    [MET_QUOTE] = {"quote", {1, 1, 1, 1, 1, 1}},
+    [MET_NO_ROW] = {"13", {1, 1, 1, 1, 1, 1}},
+    [MET_NOT_TRADING] = {"14", {1, 1, 1, 1, 1, 1}},
+    [MET_FIXED_FIELD] = {"15", {1, 1, 1, 1, 1, 1}},
+    [MET_FULL] = {"16", {1, 1, 1, 1, 1, 0}},
+    [MET_FOUND] = {"find row", {1, 1, 1, 1, 1, 1}},
+    [MET_NOT_FOUND] = {"find none", {1, 1, 1, 1, 1, 1}},
+};
+
+static const char *const astray_names[MET_ASTRAYS] = {
+    "m", "H", "quote", "held", "run", "run-held", "run-later", "find"};
+
+static const char *const entry_names[MET_ENTRIES] = {"alone", "first", "between", "last", "256th"};
+
+/* The calls that are lent an index. */
+static const char *const lent_names[MET_LENT] = {
+    "start index", "step index", "run index", "restore index", "find index"};
+
+static const char *const length_names[MET_LENGTHS] = {"empty", "short", "long"};
+
+static const char *const built_names[MET_BUILT] = {"over-zeros", "over-others"};
 
 static const char *const state_names[MET_STATES] = {
     "none", "B", "S", "H", "T", "I", "O", "R", "X", "other"};
@@ -326,18 +359,19 @@ static void count_run(struct met *m, const struct call *c, uint64_t answer, size
 }
 
 void met_count(struct met *m, const struct call *c, uint64_t answer,
-               const struct world *plain, const uint8_t *input, size_t held)
+               const struct world *plain, const uint8_t *input, const struct met_before *before)
 {
     uint32_t low = (uint32_t)answer;
     unsigned refusal = nelqubat_refusal(low);
+    met_count_index(m, c, answer, before, plain, input);
     if (refusal < MET_REFUSALS)
         m->refusals[row_of(c, answer)][refusal]++;
     if (c->op == CALL_RUN)
-        count_run(m, c, answer, held);
+        count_run(m, c, answer, before->held);
     else if (refusal == 0)
         count_done(m, c, low, plain, input);
     else if (c->op == CALL_STEP)
-        count_refused(m, low, plain, input, held);
+        count_refused(m, low, plain, input, before->held);
     else if (c->op == CALL_WRITE && refusal == NELQUBAT_REFUSED_RECORD)
         count_broken(m, input);
 }
@@ -447,6 +481,25 @@ static bool report_prices(const struct met *m, size_t call, bool all)
     return good;
 }
 
+static bool report_searches(const struct met *m, enum met_search search, bool all)
+{
+    struct line l = begin_line(searches[search].name, all);
+    for (size_t i = 0; i < MET_INDEXES; i++)
+        add_cell(&l, index_names[i], m->searches[search][i], searches[search].can[i]);
+    return end_line(&l);
+}
+
+static bool report_index(const struct met *m, bool all)
+{
+    bool good = true;
+    for (unsigned search = 0; search < MET_SEARCHES; search++)
+        good &= report_searches(m, (enum met_search)search, all);
+    for (size_t i = 0; i < MET_LENT; i++)
+        good &= report_names(lent_names[i], length_names, m->lengths[i], MET_LENGTHS, all);
+    good &= report_names("astray", astray_names, m->astray, MET_ASTRAYS, all);
+    good &= report_names("entered", entry_names, m->entered, MET_ENTRIES, all);
+    return report_names("built", built_names, m->built, MET_BUILT, all) && good;
+}
 
 bool met_report(const struct met *m, bool all)
 {
@@ -468,5 +521,6 @@ bool met_report(const struct met *m, bool all)
     good &= report_names("line", line_names, m->lines, MET_LINES, all);
     for (size_t bid = 0; bid < MET_WORDS; bid++)
         good &= report_names(bid_names[bid], ask_names, m->words[bid], MET_WORDS, all);
-    return report_names("find", find_names, m->finds, MET_FINDS, all) && good;
+    good &= report_names("find", find_names, m->finds, MET_FINDS, all);
+    return report_index(m, all) && good;
 }

@@ -1,15 +1,16 @@
 /* How often each call met each refusal and each kind of answer and message, quotes
- * each state of a row and each sort of price, lines of rows each sort of side, and
- * runs each way to stop: a comparison that never met one says nothing of it. */
+ * each state of a row and each sort of price, lines of rows each sort of side, runs
+ * each way to stop, and searches each sort of index: a comparison that never met
+ * one says nothing of it. */
 #ifndef MET_H
 #define MET_H
 
 #include "pair.h"
 
-/* Counts the plain reader's answer to a call that was made with this input, when
- * the handle held so many bytes. */
+/* Counts the plain reader's answer to a call that was made with this input, and
+ * found its memory so. */
 void met_count(struct met *m, const struct call *c, uint64_t answer,
-               const struct world *plain, const uint8_t *input, size_t held);
+               const struct world *plain, const uint8_t *input, const struct met_before *before);
 
 /* Prints the counts, and names on standard error what was met although no call
  * may answer so, and where `all` is asked for, what was never met: false then. */

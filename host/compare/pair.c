@@ -3,6 +3,7 @@
 #include "calls.h"
 #include "generate.h"
 #include "met.h"
+#include "met_index.h"
 #include "stepped.h"
 
 #include <inttypes.h>
@@ -78,6 +79,7 @@ void pair_fill(struct pair *p, const uint8_t *handle, const uint8_t *table,
     fill_world(&p->library, handle, table, index, image);
     fill_world(&p->plain, handle, table, index, image);
     p->image_used = saves;
+    p->index_ours = false;
     p->since = 0;
     p->idle = 0;
     p->saved = 0;
@@ -238,7 +240,8 @@ static bool same_as_steps(struct pair *p, const struct call *c, const uint8_t *i
 static bool call_both(struct pair *p, const struct call *c, const uint8_t *library_input,
                       const uint8_t *plain_input, size_t n)
 {
-    size_t held = nelqubat_handle_held(p->plain.handle + GUARD_BYTES);
+    struct met_before before = met_look(&p->plain, p->index_ours);
+    bool makes_index = c->op == CALL_START || c->op == CALL_RESTORE;
     uint64_t got;
     p->doing = c->op;
     p->calls++;
@@ -246,7 +249,8 @@ static bool call_both(struct pair *p, const struct call *c, const uint8_t *libra
         copy_reader(&p->stepped, &p->library);
     got = make_call(&library_calls, &p->library, c, library_input, n);
     p->answer = make_call(&plain_calls, &p->plain, c, plain_input, n);
-    met_count(&p->met, c, p->answer, &p->plain, plain_input, held);
+    met_count(&p->met, c, p->answer, &p->plain, plain_input, &before);
+    p->index_ours |= makes_index && nelqubat_refusal((uint32_t)p->answer) == NELQUBAT_DONE;
     p->packets += packets_ended(c->op, p->answer);
     if (c->op == CALL_SAVE)
         p->saved = nelqubat_written((uint32_t)p->answer);
@@ -297,6 +301,7 @@ static void spoil(struct pair *p, uint64_t how)
     struct dice d = dice_seeded(how);
     enum index_damage kind = (enum index_damage)dice_below(&d, INDEX_DAMAGES);
     damage_index(&d, kind, rows_in_use(p), p->plain.index + GUARD_BYTES);
+    p->index_ours = false;
     memcpy(p->library.index, p->plain.index, sizeof p->library.index);
 }
 

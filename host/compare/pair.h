@@ -79,6 +79,37 @@ enum { MET_STATES = 10 };
  * six letters set; and what a row's line says of a side: unseen, none, a price. */
 enum { MET_PRICES = 4, MET_SIDES = 8, MET_WORDS = 3 };
 
+/* An index: true, or false by its first fault: a place in use that names no row in
+ * use, zeros alone for several rows, a row named twice, ids that fall, or places
+ * out of use that are not zero. */
+enum met_index { MET_TRUE, MET_PAST, MET_ZEROS, MET_TWICE, MET_ORDER, MET_UNUSED, MET_INDEXES };
+
+/* What a search came to: a directory for a new id and for a known one, a state and
+ * a quote that were taken, refusals 13 to 16, and what a find found. */
+enum met_search {
+    MET_NEW, MET_KNOWN, MET_ACTION, MET_QUOTE, MET_NO_ROW, MET_NOT_TRADING, MET_FIXED_FIELD, MET_FULL,
+    MET_FOUND, MET_NOT_FOUND,
+    MET_SEARCHES
+};
+
+/* Where a search went astray: for a packet that lay whole, one that was cut, the
+ * first packet of a run or a later one, and in a find. */
+enum met_astray {
+    MET_ASTRAY_M, MET_ASTRAY_H, MET_ASTRAY_QUOTE, MET_ASTRAY_HELD, MET_ASTRAY_RUN, MET_ASTRAY_RUN_HELD,
+    MET_ASTRAY_LATER, MET_ASTRAY_FIND,
+    MET_ASTRAYS
+};
+
+/* Where a new id was entered, the calls that are lent an index, and wrong lengths. */
+enum { MET_ENTRIES = 5, MET_LENT = 5, MET_LENGTHS = 3, MET_BUILT = 2 };
+
+/* What a call found: bytes held, rows in use, the index, and whether it was zeros. */
+struct met_before {
+    size_t held, rows;
+    enum met_index index;
+    bool is_zero;
+};
+
 struct met {
     unsigned long refusals[MET_ROWS][MET_REFUSALS];
     unsigned long kinds[MET_KINDS];                      /* of a step's answer */
@@ -93,6 +124,11 @@ struct met {
     unsigned long prices[MET_LETTER_CALLS][MET_PRICES][MET_SIDES]; /* of quotes told by a step, read, written */
     unsigned long over[MET_SIDES];                       /* records with 26 for a price above the highest alone */
     unsigned long words[MET_WORDS][MET_WORDS];           /* of a row's line, for bid and ask */
+    unsigned long searches[MET_SEARCHES][MET_INDEXES];
+    unsigned long astray[MET_ASTRAYS];
+    unsigned long entered[MET_ENTRIES];                  /* alone, first, between, last; the 256th */
+    unsigned long lengths[MET_LENT][MET_LENGTHS];        /* of an index that is wrong, all else right */
+    unsigned long built[MET_BUILT];                      /* by a restore, over zeros and over others */
 };
 
 struct pair {
@@ -104,6 +140,7 @@ struct pair {
     unsigned since;             /* steps since the whole table was compared */
     unsigned idle;              /* feeds and turns since the reader takes no more */
     bool image_used;            /* image memory was written to since it was filled */
+    bool index_ours;            /* the index is one that our own calls made */
     size_t saved;               /* bytes that the latest save wrote */
     uint64_t answer;            /* what the plain reader answered last */
     enum operation doing;       /* the call under way */

@@ -288,7 +288,7 @@ static void put_row_directory(struct dice *d, const uint8_t *row,
     m[45] = pick(d, tradables);
     m[46] = pick(d, variations);
     dice_fill(d, m + 47, 16);
-    if (dice_chance(d, 30))
+    if (dice_chance(d, 50))
         flip_bit(d, &m[dice_between(d, 15, 46)]);
     put_packet(s, 'S', m, sizeof m);
 }
