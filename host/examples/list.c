@@ -5,14 +5,15 @@
 #include <stdio.h>
 
 static uint8_t handle[NELQUBAT_HANDLE_BYTES], table[NELQUBAT_TABLE_BYTES];
+static uint8_t id_index[NELQUBAT_INDEX_BYTES];
 
 /* Runs through one piece; 0 once the reader takes no more. */
 static int feed(const uint8_t *piece, size_t n)
 {
     uint64_t answer;
     do {
-        answer = nelqubat_run(handle, sizeof handle, table, sizeof table, piece, n,
-                              NELQUBAT_MAX_PACKETS);
+        answer = nelqubat_run(handle, sizeof handle, table, sizeof table, id_index, sizeof id_index,
+                              piece, n, NELQUBAT_MAX_PACKETS);
         piece += nelqubat_run_taken(answer);
         n -= nelqubat_run_taken(answer);
     } while (nelqubat_run_why(answer) == NELQUBAT_CEILING);
@@ -38,7 +39,7 @@ int main(void)
         fprintf(stderr, "list: header and library are not of one version\n");
         return 2;
     }
-    nelqubat_start(handle, sizeof handle, table, sizeof table);
+    nelqubat_start(handle, sizeof handle, table, sizeof table, id_index, sizeof id_index);
     do
         n = fread(piece, 1, sizeof piece, stdin);
     while (n != 0 && feed(piece, n));

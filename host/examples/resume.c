@@ -12,6 +12,7 @@
 #include <string.h>
 
 static uint8_t handle[NELQUBAT_HANDLE_BYTES], table[NELQUBAT_TABLE_BYTES];
+static uint8_t id_index[NELQUBAT_INDEX_BYTES];
 static uint8_t image[NELQUBAT_IMAGE_BYTES + 1];
 
 static int complain(const char *what, const char *why)
@@ -48,7 +49,8 @@ static int restore(const char *path)
         return complain(path, strerror(errno));
     n = fread(image, 1, sizeof image, file);
     fclose(file);
-    refusal = nelqubat_restore(handle, sizeof handle, table, sizeof table, image, n);
+    refusal = nelqubat_restore(handle, sizeof handle, table, sizeof table, id_index, sizeof id_index,
+                               image, n);
     return refusal == 0 || complain(path, nelqubat_refusal_name(refusal));
 }
 
@@ -63,18 +65,21 @@ static int log_in(void)
         return 1;
     memcpy(packet + 3, nelqubat_handle_session(handle), NELQUBAT_SESSION_BYTES);
     snprintf((char *)packet + 13, 21, "%20" PRIu64, nelqubat_handle_next(handle));
-    answer = nelqubat_step(handle, sizeof handle, table, sizeof table, packet, 33, event, sizeof event);
+    answer = nelqubat_step(handle, sizeof handle, table, sizeof table, id_index, sizeof id_index,
+                           packet, 33, event, sizeof event);
     return nelqubat_kind(answer) == NELQUBAT_LOGIN ||
            complain("login", nelqubat_refusal_name(nelqubat_refusal(answer)));
 }
 
-/* What a program does that stops and is started again later. */
+/* What a program does that stops and is started again later. The index is not
+ * saved: restoring makes it. */
 static int stop_and_go_on(const char *path)
 {
     if (!save(path))
         return 0;
     memset(handle, 0, sizeof handle);
     memset(table, 0, sizeof table);
+    memset(id_index, 0, sizeof id_index);
     return restore(path) && log_in();
 }
 
@@ -85,8 +90,8 @@ static int feed(const uint8_t *piece, size_t n, const char **path, uint64_t mess
     uint8_t event[NELQUBAT_RECORD_BYTES];
     uint32_t answer;
     do {
-        answer = nelqubat_step(handle, sizeof handle, table, sizeof table, piece, n, event,
-                               sizeof event);
+        answer = nelqubat_step(handle, sizeof handle, table, sizeof table, id_index, sizeof id_index,
+                               piece, n, event, sizeof event);
         piece += nelqubat_taken(answer);
         n -= nelqubat_taken(answer);
         if (*path != NULL && nelqubat_is_event(answer) && nelqubat_handle_logged_in(handle) &&
@@ -125,7 +130,7 @@ int main(int argc, char **argv)
         fprintf(stderr, "resume: header and library are not of one version\n");
         return 2;
     }
-    nelqubat_start(handle, sizeof handle, table, sizeof table);
+    nelqubat_start(handle, sizeof handle, table, sizeof table, id_index, sizeof id_index);
     do
         n = fread(piece, 1, sizeof piece, stdin);
     while (n != 0 && feed(piece, n, &path, messages));

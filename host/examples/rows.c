@@ -9,6 +9,7 @@
 #include <stdlib.h>
 
 static uint8_t handle[NELQUBAT_HANDLE_BYTES], table[NELQUBAT_TABLE_BYTES];
+static uint8_t id_index[NELQUBAT_INDEX_BYTES];
 
 /* A side as price and size; where it has no price as the listing does, `none` if it
  * was quoted so and a dash if it never was. */
@@ -48,7 +49,8 @@ static void show(const uint8_t *record, const uint32_t *ids, int count)
     const uint8_t *row;
     if (letter == 'S' || letter == 'M' || !is_wanted(id, ids, count))
         return;
-    row = nelqubat_found_row(table, nelqubat_find(handle, sizeof handle, table, sizeof table, id));
+    row = nelqubat_found_row(table, nelqubat_find(handle, sizeof handle, table, sizeof table,
+                                                  id_index, sizeof id_index, id));
     if (row == NULL)
         return;
     printf("%" PRIu64 " %c ", nelqubat_handle_next(handle) - 1, letter);
@@ -61,8 +63,8 @@ static int feed(const uint8_t *piece, size_t n, const uint32_t *ids, int count)
     uint8_t event[NELQUBAT_RECORD_BYTES];
     uint32_t answer;
     do {
-        answer = nelqubat_step(handle, sizeof handle, table, sizeof table, piece, n, event,
-                               sizeof event);
+        answer = nelqubat_step(handle, sizeof handle, table, sizeof table, id_index, sizeof id_index,
+                               piece, n, event, sizeof event);
         piece += nelqubat_taken(answer);
         n -= nelqubat_taken(answer);
         if (nelqubat_kind(answer) == NELQUBAT_MESSAGE)
@@ -102,7 +104,7 @@ int main(int argc, char **argv)
         fprintf(stderr, "rows: header and library are not of one version\n");
         return 2;
     }
-    nelqubat_start(handle, sizeof handle, table, sizeof table);
+    nelqubat_start(handle, sizeof handle, table, sizeof table, id_index, sizeof id_index);
     do
         n = fread(piece, 1, sizeof piece, stdin);
     while (n != 0 && feed(piece, n, ids, argc - 1));

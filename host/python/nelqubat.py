@@ -24,8 +24,8 @@ import ctypes
 import os
 from typing import NamedTuple, Optional
 
-VERSION = 3
-HANDLE_BYTES, TABLE_BYTES, RECORD_BYTES = 305, 31744, 112
+VERSION = 4
+HANDLE_BYTES, TABLE_BYTES, INDEX_BYTES, RECORD_BYTES = 305, 31744, 512, 112
 ROW_BYTES, IMAGE_BYTES, LINE_BYTES, MESSAGE_BYTES = 124, 33280, 80, 63
 PIECE_BYTES = 65536
 MAX_PACKETS = 1000
@@ -174,7 +174,7 @@ class Event(NamedTuple):
 
 
 class Ran(NamedTuple):
-    """What a run did: why it stopped (more, ended, refused or ceiling), packets finished, bytes taken, a packet's refusal or 0."""
+    """What a run did: why it stopped (more, ended, refused or ceiling), packets finished, bytes taken, the refusal or 0."""
 
     why: str
     finished: int
@@ -211,7 +211,7 @@ def _find_library():
 
 # How many memories each call is lent, a pointer and a count for each. A line also has its number before the last, and behind them
 # a find has the id and a run its ceiling.
-_LENT = {"start": 2, "step": 4, "save": 3, "restore": 3, "read": 2, "write": 2}
+_LENT = {"start": 3, "step": 5, "save": 3, "restore": 4, "read": 2, "write": 2}
 
 
 def _load():
@@ -222,14 +222,14 @@ def _load():
         getattr(library, "nelqubat_" + name).restype = ctypes.c_uint32
     library.nelqubat_line.argtypes = memory * 2 + [ctypes.c_size_t] + memory
     library.nelqubat_line.restype = ctypes.c_uint32
-    library.nelqubat_find.argtypes = memory * 2 + [ctypes.c_uint32]
+    library.nelqubat_find.argtypes = memory * 3 + [ctypes.c_uint32]
     library.nelqubat_find.restype = ctypes.c_uint32
-    library.nelqubat_run.argtypes = memory * 3 + [ctypes.c_uint32]
+    library.nelqubat_run.argtypes = memory * 4 + [ctypes.c_uint32]
     library.nelqubat_run.restype = ctypes.c_uint64
     library.nelqubat_version.restype = ctypes.c_uint32
     if library.nelqubat_version() != VERSION:
         raise ImportError(f"the library is of version {library.nelqubat_version()}, this module of {VERSION}")
-    for name, count in (("handle", HANDLE_BYTES), ("table", TABLE_BYTES), ("record", RECORD_BYTES)):
+    for name, count in (("handle", HANDLE_BYTES), ("table", TABLE_BYTES), ("index", INDEX_BYTES), ("record", RECORD_BYTES)):
         size = getattr(library, f"nelqubat_{name}_size")
         size.restype = ctypes.c_size_t
         if size() != count:
@@ -277,15 +277,16 @@ class Reader:
 
     def __init__(self):
         self._handle, self._table = _memory(HANDLE_BYTES), _memory(TABLE_BYTES)
-        self._event = _memory(RECORD_BYTES)
+        self._index, self._event = _memory(INDEX_BYTES), _memory(RECORD_BYTES)
         self._both = (self._handle, HANDLE_BYTES, self._table, TABLE_BYTES)
-        _done(_library.nelqubat_start(*self._both))
+        self._all = (*self._both, self._index, INDEX_BYTES)
+        _done(_library.nelqubat_start(*self._all))
 
     @classmethod
     def restore(cls, image):
         """A reader from a saved table. It waits for a login with the saved session and next number."""
         reader = cls()
-        _done(_library.nelqubat_restore(*reader._both, *_lent(image)))
+        _done(_library.nelqubat_restore(*reader._all, *_lent(image)))
         return reader
 
     def save(self):
@@ -302,7 +303,7 @@ class Reader:
         memory, count = _lent(piece)
         at = 0
         while True:
-            answer = _library.nelqubat_step(*self._both, ctypes.byref(memory, at), count - at, self._event, RECORD_BYTES)
+            answer = _library.nelqubat_step(*self._all, ctypes.byref(memory, at), count - at, self._event, RECORD_BYTES)
             kind = KINDS[answer >> 8 & 0xFF]
             at += answer >> 16
             if kind == "refused":
@@ -314,7 +315,8 @@ class Reader:
     def run(self, piece, ceiling=MAX_PACKETS):
         """Reads a piece of the session until so many packets are finished, and tells no events; its answer is a Ran.
 
-        What is not taken of the piece is to be given again. Raises Refused for a ceiling over 1,000, but not for a refused packet.
+        What is not taken of the piece is to be given again. Raises Refused for a ceiling over 1,000, but not for a refused packet;
+        nor for 20 behind packets that were finished, which is in the answer, and raised by the run after it.
         """
         memory, count = _lent(piece)
         return self._run(memory, 0, count, ceiling)
@@ -334,11 +336,11 @@ class Reader:
     def _run(self, memory, at, count, ceiling):
         if not 0 <= ceiling < 1 << 32:
             raise OverflowError(f"{ceiling} is no ceiling of 32 bits")
-        answer = _library.nelqubat_run(*self._both, ctypes.byref(memory, at), count - at, ceiling)
-        refusal = answer & 0xFF
-        if refusal >= 20:
+        answer = _library.nelqubat_run(*self._all, ctypes.byref(memory, at), count - at, ceiling)
+        refusal, finished = answer & 0xFF, answer >> 16 & 0xFFFF
+        if refusal >= 20 and finished == 0:
             raise Refused(refusal)
-        return Ran(KINDS[answer >> 8 & 0xFF], answer >> 16 & 0xFFFF, answer >> 32, refusal)
+        return Ran(KINDS[answer >> 8 & 0xFF], finished, answer >> 32, refusal)
 
     def _tell(self, kind):
         data = bytes(self._event)
@@ -400,7 +402,7 @@ class Reader:
         """A copy of the row for an instrument, or None."""
         if not 0 <= ident < 1 << 32:
             raise OverflowError(f"{ident} is no id of four bytes")
-        place = _done(_library.nelqubat_find(*self._both, ident))
+        place = _done(_library.nelqubat_find(*self._all, ident))
         return _row(self._row_bytes(place - 1)) if place else None
 
     def _row_bytes(self, k):

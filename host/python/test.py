@@ -74,7 +74,7 @@ class Layouts(unittest.TestCase):
         self.assertIn(f"#define NELQUBAT_VERSION {nelqubat.VERSION}\n", header())
 
     def test_sizes(self):
-        for name in ("HANDLE", "TABLE", "RECORD", "ROW", "IMAGE", "LINE", "MESSAGE"):
+        for name in ("HANDLE", "TABLE", "INDEX", "RECORD", "ROW", "IMAGE", "LINE", "MESSAGE"):
             self.assertEqual(getattr(nelqubat, name + "_BYTES"), constants()[name + "_BYTES"], name)
         self.assertEqual(nelqubat.MAX_PACKETS, constants()["MAX_PACKETS"])
         for structure, size in ((nelqubat.RowBytes, 124), (nelqubat.RecordBytes, 112), (nelqubat.HandleBytes, 305)):
@@ -140,18 +140,50 @@ class Sessions(unittest.TestCase):
         for ident in (-1, 2 ** 32, 2 ** 32 + rows[0].id):
             self.assertRaises(OverflowError, reader.row, ident)
 
-    def test_first_found(self):
+    def numbers(self, reader):
+        """The row numbers in the index, place by place."""
+        data = bytes(reader._index)
+        return [int.from_bytes(data[at:at + 2], "big") for at in range(0, nelqubat.INDEX_BYTES, 2)]
+
+    def true_numbers(self, reader):
+        ids = [row.id for row in reader.rows()]
+        return sorted(range(len(ids)), key=ids.__getitem__) + [0] * (256 - len(ids))
+
+    def test_index(self):
         reader = nelqubat.Reader()
+        self.assertEqual(self.numbers(reader), [0] * 256)
         for _ in reader.read(os.path.join(SAMPLES, "whole.soup")):
-            pass
-        first, second = reader.rows()[:2]
-        reader._table[nelqubat.ROW_BYTES:nelqubat.ROW_BYTES + 4] = reader._table[:4]
-        self.assertEqual(reader.row(first.id), first)
-        self.assertIsNone(reader.row(second.id))
-        reader._handle[42] = 2
+            self.assertEqual(self.numbers(reader), self.true_numbers(reader))
+        self.assertGreater(len(reader.rows()), 10)
+        again = nelqubat.Reader.restore(reader.save())
+        self.assertEqual(self.numbers(again), self.true_numbers(reader))
+
+    def refused_20(self, call, *arguments):
         with self.assertRaises(nelqubat.Refused) as caught:
-            reader.row(first.id)
+            call(*arguments)
         self.assertEqual(caught.exception.number, 20)
+
+    def test_false_index(self):
+        rest = text(SAMPLES, "whole.soup")
+        reader = nelqubat.Reader()
+        while len(reader.rows()) < 2:
+            rest = rest[reader.run(rest, 1).taken:]
+        row, kept = reader.rows()[0], bytes(reader._index)
+        reader._index[:4] = b"\xff" * 4
+        self.refused_20(reader.row, row.id)
+        heartbeats = b"\x00\x01H" * 3
+        self.assertEqual(reader.run(heartbeats + rest), nelqubat.Ran("refused", 3, len(heartbeats), 20))
+        self.refused_20(reader.run, rest)
+        self.refused_20(lambda: list(reader.feed(rest)))
+        self.assertEqual(reader.refusal, 0)
+        reader._index[:] = kept
+        list(reader.feed(rest))
+        self.assertEqual(reader.listing().encode(), text(SAMPLES, "whole.txt"))
+
+    def test_no_handle(self):
+        reader = nelqubat.Reader()
+        reader._handle[42] = 2
+        self.refused_20(reader.row, 0)
 
     def test_resumed(self):
         session = text(SAMPLES, "whole.soup")
