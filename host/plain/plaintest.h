@@ -35,6 +35,8 @@ void start(struct bench *b);
 
 struct plain_answer step(struct bench *b, const uint8_t *piece, size_t n);
 
+struct plain_ran run_to(struct bench *b, const uint8_t *piece, size_t n, uint32_t ceiling);
+
 /* Steps through accepted packets that fill the piece exactly. */
 void feed(struct bench *b, const uint8_t *piece, size_t n);
 

@@ -200,11 +200,6 @@ static void astray_with_held(void)
     }
 }
 
-static struct plain_ran run(struct bench *b, const uint8_t *piece, size_t n, uint32_t ceiling)
-{
-    return plain_run(&b->r, b->table, sizeof b->table, b->index, INDEX, piece, n, ceiling);
-}
-
 static void expect_astray_run(int line, struct plain_ran ran, uint32_t finished, size_t taken)
 {
     expect_at(line, ran.why == PLAIN_RAN_REFUSED && ran.refusal == 20, "a run that went astray");
@@ -220,15 +215,15 @@ static void runs_astray(void)
     kept = b;
     feed(&kept, LITERAL(HEARTBEAT STATE(ID7, "H")));
     c = b;
-    expect_astray_run(__LINE__, run(&c, LITERAL(HEARTBEAT STATE(ID7, "H") BID_LONG(ID9) HEARTBEAT), 9), 2, 22);
+    expect_astray_run(__LINE__, run_to(&c, LITERAL(HEARTBEAT STATE(ID7, "H") BID_LONG(ID9) HEARTBEAT), 9), 2, 22);
     EXPECT(same_bench(&c, &kept), "the packets before it are kept");
-    expect_astray_run(__LINE__, run(&c, LITERAL(BID_LONG(ID9)), 9), 0, 0);
+    expect_astray_run(__LINE__, run_to(&c, LITERAL(BID_LONG(ID9)), 9), 0, 0);
     EXPECT(same_bench(&c, &kept), "and nothing more");
-    EQUAL(run(&c, LITERAL(BID_LONG(ID9)), 0).why, PLAIN_RAN_CEILING, "no step, no search");
+    EQUAL(run_to(&c, LITERAL(BID_LONG(ID9)), 0).why, PLAIN_RAN_CEILING, "no step, no search");
     c = b;
-    EQUAL(run(&c, LITERAL("\x00\x25" "SB"), 9).taken, 4, "the start of a packet");
+    EQUAL(run_to(&c, LITERAL("\x00\x25" "SB"), 9).taken, 4, "the start of a packet");
     kept = c;
-    expect_astray_run(__LINE__, run(&c, LITERAL("\x00\x07" TIME ID9 "X" LONG_BID), 9), 0, 0);
+    expect_astray_run(__LINE__, run_to(&c, LITERAL("\x00\x07" TIME ID9 "X" LONG_BID), 9), 0, 0);
     EXPECT(same_bench(&c, &kept), "what was held stays held");
 }
 

@@ -2,11 +2,6 @@
  * what as many steps leave. */
 #include "plaintest.h"
 
-static struct plain_ran run(struct bench *b, const uint8_t *piece, size_t n, uint32_t ceiling)
-{
-    return plain_run(&b->r, b->table, sizeof b->table, b->index, sizeof b->index, piece, n, ceiling);
-}
-
 static void ran_at(int line, struct plain_ran ran, enum plain_why why, uint32_t refusal,
                    uint32_t finished, size_t taken)
 {
@@ -23,11 +18,11 @@ static void more_wanted(void)
 {
     struct bench b;
     start(&b);
-    RAN(run(&b, LITERAL(""), 1), PLAIN_RAN_OUT, 0, 0, 0);
-    RAN(run(&b, LITERAL(LOGIN HEARTBEAT), 3), PLAIN_RAN_OUT, 0, 2, 36);
-    RAN(run(&b, LITERAL(DIRECTORY(ID7, "Y") "\x00\x11" "SH"), 1000), PLAIN_RAN_OUT, 0, 1, 70);
+    RAN(run_to(&b, LITERAL(""), 1), PLAIN_RAN_OUT, 0, 0, 0);
+    RAN(run_to(&b, LITERAL(LOGIN HEARTBEAT), 3), PLAIN_RAN_OUT, 0, 2, 36);
+    RAN(run_to(&b, LITERAL(DIRECTORY(ID7, "Y") "\x00\x11" "SH"), 1000), PLAIN_RAN_OUT, 0, 1, 70);
     EXPECT(b.r.used == 4 && memcmp(b.r.held, "\x00\x11" "SH", 4) == 0, "the cut packet is held");
-    RAN(run(&b, LITERAL("\x00\x02" TIME ID7 "T" HEARTBEAT "\x00"), 5), PLAIN_RAN_OUT, 0, 2, 19);
+    RAN(run_to(&b, LITERAL("\x00\x02" TIME ID7 "T" HEARTBEAT "\x00"), 5), PLAIN_RAN_OUT, 0, 2, 19);
     EXPECT(b.r.used == 1 && b.r.held[0] == 0 && b.r.next == 3, "a lone byte is held");
     expect_row(&b, 0, LITERAL(ROW(ID7, "Y", "T", " ", "\0", NO_SIDE, NO_SIDE, "\2")));
 }
@@ -37,18 +32,18 @@ static void at_the_ceiling(void)
 {
     struct bench b;
     start(&b);
-    RAN(run(&b, LITERAL(LOGIN), 0), PLAIN_RAN_CEILING, 0, 0, 0);
-    RAN(run(&b, LITERAL(""), 0), PLAIN_RAN_CEILING, 0, 0, 0);
+    RAN(run_to(&b, LITERAL(LOGIN), 0), PLAIN_RAN_CEILING, 0, 0, 0);
+    RAN(run_to(&b, LITERAL(""), 0), PLAIN_RAN_CEILING, 0, 0, 0);
     EXPECT(!b.r.logged_in && b.r.used == 0, "ceiling 0 takes nothing");
-    RAN(run(&b, LITERAL(LOGIN HEARTBEAT), 1), PLAIN_RAN_CEILING, 0, 1, 33);
-    RAN(run(&b, LITERAL(HEARTBEAT "\x00\x04" "+abc" "\x00\x01" "U" "\x00\x11"), 3), PLAIN_RAN_CEILING, 0, 3, 12);
+    RAN(run_to(&b, LITERAL(LOGIN HEARTBEAT), 1), PLAIN_RAN_CEILING, 0, 1, 33);
+    RAN(run_to(&b, LITERAL(HEARTBEAT "\x00\x04" "+abc" "\x00\x01" "U" "\x00\x11"), 3), PLAIN_RAN_CEILING, 0, 3, 12);
     EQUAL(b.r.used, 0, "nothing is held");
-    RAN(run(&b, LITERAL(EVENT("O") DIRECTORY(ID7, "Y")), 2), PLAIN_RAN_CEILING, 0, 2, 81);
+    RAN(run_to(&b, LITERAL(EVENT("O") DIRECTORY(ID7, "Y")), 2), PLAIN_RAN_CEILING, 0, 2, 81);
     EXPECT(b.r.next == 3 && b.r.rows == 1 && b.r.event == 'O', "both messages");
-    RAN(run(&b, LITERAL("\x00"), 1), PLAIN_RAN_OUT, 0, 0, 1);
-    RAN(run(&b, LITERAL("\x01" "H"), 0), PLAIN_RAN_CEILING, 0, 0, 0);
+    RAN(run_to(&b, LITERAL("\x00"), 1), PLAIN_RAN_OUT, 0, 0, 1);
+    RAN(run_to(&b, LITERAL("\x01" "H"), 0), PLAIN_RAN_CEILING, 0, 0, 0);
     EQUAL(b.r.used, 1, "what is held stays");
-    RAN(run(&b, LITERAL("\x01" "H" "\x00\x00"), 1), PLAIN_RAN_CEILING, 0, 1, 2);
+    RAN(run_to(&b, LITERAL("\x01" "H" "\x00\x00"), 1), PLAIN_RAN_CEILING, 0, 1, 2);
 }
 
 /* J and Z are finished, and a run that finishes one has ended, at its ceiling too. */
@@ -57,14 +52,14 @@ static void ended(void)
     struct bench b;
     start(&b);
     feed(&b, LITERAL(LOGIN));
-    RAN(run(&b, LITERAL(HEARTBEAT END HEARTBEAT), 2), PLAIN_RAN_ENDED, 0, 2, 6);
-    RAN(run(&b, LITERAL(HEARTBEAT), 0), PLAIN_RAN_ENDED, 0, 0, 0);
-    RAN(run(&b, LITERAL("\x00\x00"), 5), PLAIN_RAN_ENDED, 0, 0, 0);
+    RAN(run_to(&b, LITERAL(HEARTBEAT END HEARTBEAT), 2), PLAIN_RAN_ENDED, 0, 2, 6);
+    RAN(run_to(&b, LITERAL(HEARTBEAT), 0), PLAIN_RAN_ENDED, 0, 0, 0);
+    RAN(run_to(&b, LITERAL("\x00\x00"), 5), PLAIN_RAN_ENDED, 0, 0, 0);
     start(&b);
-    RAN(run(&b, LITERAL("\x00\x02" "JA" HEARTBEAT), 1), PLAIN_RAN_ENDED, 0, 1, 4);
+    RAN(run_to(&b, LITERAL("\x00\x02" "JA" HEARTBEAT), 1), PLAIN_RAN_ENDED, 0, 1, 4);
     start(&b);
-    RAN(run(&b, LITERAL(HEARTBEAT "\x00\x02" "JA" HEARTBEAT), 1000), PLAIN_RAN_ENDED, 0, 2, 7);
-    RAN(run(&b, LITERAL(""), 1), PLAIN_RAN_ENDED, 0, 0, 0);
+    RAN(run_to(&b, LITERAL(HEARTBEAT "\x00\x02" "JA" HEARTBEAT), 1000), PLAIN_RAN_ENDED, 0, 2, 7);
+    RAN(run_to(&b, LITERAL(""), 1), PLAIN_RAN_ENDED, 0, 0, 0);
 }
 
 /* The packets before a refused one stay; its bytes are taken, and it is not
@@ -73,19 +68,19 @@ static void refused(void)
 {
     struct bench b;
     start(&b);
-    RAN(run(&b, LITERAL(LOGIN DIRECTORY(ID7, "Y") BID_SHORT(ID7) HEARTBEAT), 2), PLAIN_RAN_CEILING, 0, 2, 99);
-    RAN(run(&b, LITERAL(EVENT("Q") BID_SHORT(ID7) HEARTBEAT), 2), PLAIN_RAN_REFUSED, 14, 1, 44);
+    RAN(run_to(&b, LITERAL(LOGIN DIRECTORY(ID7, "Y") BID_SHORT(ID7) HEARTBEAT), 2), PLAIN_RAN_CEILING, 0, 2, 99);
+    RAN(run_to(&b, LITERAL(EVENT("Q") BID_SHORT(ID7) HEARTBEAT), 2), PLAIN_RAN_REFUSED, 14, 1, 44);
     EXPECT(b.r.refusal == 14 && b.r.used == 0 && b.r.next == 3 && b.r.event == 'Q', "the message before it");
     expect_row(&b, 0, LITERAL(ROW(ID7, "Y", "\0", " ", "\0", NO_SIDE, NO_SIDE, "\1")));
-    RAN(run(&b, LITERAL(HEARTBEAT), 0), PLAIN_RAN_REFUSED, 14, 0, 0);
-    RAN(run(&b, LITERAL(HEARTBEAT), 5), PLAIN_RAN_REFUSED, 14, 0, 0);
+    RAN(run_to(&b, LITERAL(HEARTBEAT), 0), PLAIN_RAN_REFUSED, 14, 0, 0);
+    RAN(run_to(&b, LITERAL(HEARTBEAT), 5), PLAIN_RAN_REFUSED, 14, 0, 0);
     b.r.ended = true;
-    RAN(run(&b, LITERAL(HEARTBEAT), 5), PLAIN_RAN_REFUSED, 14, 0, 0);
+    RAN(run_to(&b, LITERAL(HEARTBEAT), 5), PLAIN_RAN_REFUSED, 14, 0, 0);
     start(&b);
-    RAN(run(&b, LITERAL(HEARTBEAT "\x01\x01" "rest"), 9), PLAIN_RAN_REFUSED, 1, 1, 5);
+    RAN(run_to(&b, LITERAL(HEARTBEAT "\x01\x01" "rest"), 9), PLAIN_RAN_REFUSED, 1, 1, 5);
     start(&b);
-    RAN(run(&b, LITERAL("\x00\x01"), 1), PLAIN_RAN_OUT, 0, 0, 2);
-    RAN(run(&b, LITERAL("X" HEARTBEAT), 1), PLAIN_RAN_REFUSED, 2, 0, 1);
+    RAN(run_to(&b, LITERAL("\x00\x01"), 1), PLAIN_RAN_OUT, 0, 0, 2);
+    RAN(run_to(&b, LITERAL("X" HEARTBEAT), 1), PLAIN_RAN_REFUSED, 2, 0, 1);
 }
 
 /* 20 and 27 change nothing; 20 comes first, and 27 before what stands. */
@@ -128,11 +123,11 @@ static void most_packets(void)
     for (size_t i = 0; i < sizeof piece; i += 3)
         memcpy(piece + i, HEARTBEAT, 3);
     start(&b);
-    RAN(run(&b, piece, sizeof piece, 999), PLAIN_RAN_CEILING, 0, 999, 2997);
-    RAN(run(&b, piece, sizeof piece, 1000), PLAIN_RAN_CEILING, 0, 1000, 3000);
-    RAN(run(&b, piece, 3000, 1000), PLAIN_RAN_CEILING, 0, 1000, 3000);
-    RAN(run(&b, piece, 2999, 1000), PLAIN_RAN_OUT, 0, 999, 2999);
-    RAN(run(&b, LITERAL("H"), 1000), PLAIN_RAN_OUT, 0, 1, 1);
+    RAN(run_to(&b, piece, sizeof piece, 999), PLAIN_RAN_CEILING, 0, 999, 2997);
+    RAN(run_to(&b, piece, sizeof piece, 1000), PLAIN_RAN_CEILING, 0, 1000, 3000);
+    RAN(run_to(&b, piece, 3000, 1000), PLAIN_RAN_CEILING, 0, 1000, 3000);
+    RAN(run_to(&b, piece, 2999, 1000), PLAIN_RAN_OUT, 0, 999, 2999);
+    RAN(run_to(&b, LITERAL("H"), 1000), PLAIN_RAN_OUT, 0, 1, 1);
 }
 
 /* The request, word for word, over steps. A step with no bytes changes nothing,
@@ -162,7 +157,7 @@ static void as_steps(const struct bench *from, const uint8_t *p, size_t n, uint3
     struct bench a = *from, b = *from;
     struct plain_ran ran, wanted;
     do {
-        ran = run(&a, p, n, ceiling);
+        ran = run_to(&a, p, n, ceiling);
         wanted = by_steps(&b, p, n, ceiling);
         RAN(ran, wanted.why, wanted.refusal, wanted.finished, wanted.taken);
         EXPECT(same_bench(&a, &b), "a run's handle, table and index");
