@@ -41,8 +41,9 @@
  * of the row, and then zeros. A start and a restore make it, and every step and run
  * keeps it; a host lends it with its table and does not write to it. It is not
  * saved: a restore builds it anew. A search halves its span until one place is left,
- * and a place that it visits has to name a row in use. Where one does not, which
- * needs a host that wrote there, the call is refused with 20 and its packet is left.
+ * and a place that it visits has to name a row in use. Where one does not, since a
+ * host wrote there or lent another reader's index, the call is refused with 20 and
+ * its packet is left.
  *
  * Stack: measured by `host/run stack`, a step and a run take up to 1,400 bytes,
  * saving and restoring up to 1,600 and every other call up to 400;
@@ -261,7 +262,7 @@ uint32_t nelqubat_start(uint8_t *handle, size_t handle_n,
  * before all else: nothing changes and 0 bytes are taken. So it is where the
  * index leads to no row in use; that 20 comes just before 13, when a directory,
  * state or quote has passed all before it. Nothing stands, and what was held stays
- * held, so that the packet can be read once the index is true, as after a restore.
+ * held, so that the packet can be read once the index is true.
  * The event memory has NELQUBAT_RECORD_BYTES. A login fills its first 18
  * bytes, a rejected login its first, a message all of it; everything else of
  * it stays as it was. */
@@ -279,7 +280,7 @@ uint32_t nelqubat_step(uint8_t *handle, size_t handle_n,
  * ended, at its ceiling too; ceiling 0 takes nothing.
  * Answer: refusal, why it stopped, the count of packets finished, which are the
  * accepted ones, and the count of bytes taken. Table, index and handle are as its
- * steps leave them. `more` takes the whole piece. A packet that is refused with 1 to 16
+ * steps leave them. `more` takes the whole piece. A packet refused with 1 to 16
  * changes no row; its bytes are taken, it is not finished, those before it stay,
  * and the refusal stands. A reader that has refused or ended answers so again,
  * at ceiling 0 too, with nothing taken and nothing finished.
