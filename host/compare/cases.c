@@ -168,7 +168,7 @@ static void begin_session(struct dice *d, const struct session_plan *plan, struc
         dice_fill(d, s->index, sizeof s->index);
     if (plan->first == 1) {
         memset(s->table, (int)dice_below(d, 256), sizeof s->table);
-        if (dice_chance(d, 10)) {
+        if (dice_chance(d, 15)) {
             spoil_length(d, &start);
             script_add(s, start, NULL, 0);
         }
