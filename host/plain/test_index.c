@@ -137,6 +137,9 @@ static void visited_places(void)
     ASTRAY(&c, DIRECTORY(ID_ZERO, "Y"));
     c = b, set_place(&c, 3, 0xFFFF); /* out of use: nothing looks there */
     feed(&c, LITERAL(STATE(ID7, "H") STATE(ID8, "H") STATE(ID9, "H")));
+    set_place(&c, 4, 0xEEEE);
+    list_id(&c, 6);
+    EXPECT(memcmp(c.index, "\0\3\0\0\0\2\0\1\xEE\xEE", 10) == 0, "one more place in use, and no other changed");
 }
 
 /* 20 comes after 1 to 6 and 10 to 12, and before 13 to 16; S and M look nowhere. */
