@@ -40,7 +40,7 @@ fn place(rows: usize, handle: &mut [u8], table: &mut [u8], index: &mut [u8], bod
     match table::wire::place(rows, body, table, index) {
         Placed::Kept => 0,
         Placed::Added => {
-            handle::put_rows(rows + 1, handle);
+            handle::put_rows(handle::rows(handle) + 1, handle);
             0
         }
         Placed::Refused(r) => table::refusal_number(r),
