@@ -10,4 +10,5 @@ pub mod Back
 pub mod Again
 pub mod Rounds
 pub mod Verdicts
+pub mod Made
 pub mod Fresh
