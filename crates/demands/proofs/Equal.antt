@@ -9,6 +9,7 @@ use Rattle.packet.specs.Stream as stream
 use Rattle.packet.specs.Ceiling as ceiling
 use Rattle.packet.specs.Session as packets
 use Rattle.packet.specs.Session.{Session, Event}
+use Rattle.table.specs.Memory.{Memories}
 use Rattle.reader.specs.Refusals.{refusalNumber, named}
 use Rattle.reader.specs.Deliver.{Table, Said}
 use Rattle.reader.specs.View.{eventOf, answerOf, stateOf, Seen, seenOf, heldIn, sessionIn, sessionOf}
@@ -76,7 +77,7 @@ answer-is s e = sym (answer-back (s .texts) (s .answer)) ∙ ap answerBack e
 
 -- ---- the handle, from its state
 
-pub same-readers : (a b : Reader) (t t′ : List ℕ) → stateOf a t ≡ stateOf b t′ → a .used ≡ b .used → SameReader a b × (t ≡ t′)
+pub same-readers : (a b : Reader) (t t′ : Memories) → stateOf a t ≡ stateOf b t′ → a .used ≡ b .used → SameReader a b × (t ≡ t′)
 same-readers a b t t′ e u =
     let inner : sessionOf (a .line) (a .board) t ≡ sessionOf (b .line) (b .board) t′
     = sym (session-in a t) ∙ ap sessionIn e ∙ session-in b t′ in (
@@ -91,7 +92,7 @@ same-readers a b t t′ e u =
       ap (λ (s : Session Table). s .about .memory) inner,
     )
 
-pub same-steps : (a b : Stepped) (t t′ : List ℕ) → seenOf a t ≡ seenOf b t′ → SameStep a b t t′
+pub same-steps : (a b : Stepped) (t t′ : Memories) → seenOf a t ≡ seenOf b t′ → SameStep a b t t′
 same-steps a b t t′ e =
     let r = same-readers (a .reader) (b .reader) t t′ (ap (λ (q : Seen). q .step .state) e) (ap (λ (q : Seen). q .used) e) in
     record {
@@ -104,15 +105,15 @@ same-steps a b t t′ e =
     }
 
 -- THEOREM, of a step
-pub equal-steps : (r : Reader) (t piece : List ℕ) (a b : Stepped) (t₁ t₂ : List ℕ) → Stepping r t piece a t₁ → Stepping r t piece b t₂ → SameStep a b t₁ t₂
+pub equal-steps : (r : Reader) (t : Memories) (piece : List ℕ) (a b : Stepped) (t₁ t₂ : Memories) → Stepping r t piece a t₁ → Stepping r t piece b t₂ → SameStep a b t₁ t₂
 equal-steps r t piece a b t₁ t₂ x y = same-steps a b t₁ t₂ (equal-answers x y)
 
 -- THEOREM, of a step where a handle lies: every byte that it leaves agrees
-pub equal-host-steps : (handle table piece event : List ℕ) (a b : ℕ) (h₁ t₁ e₁ h₂ t₂ e₂ : List ℕ) → HostSteps handle table piece event a h₁ t₁ e₁
-    → HostSteps handle table piece event b h₂ t₂ e₂ → (a ≡ b) × (h₁ ≡ h₂) × (t₁ ≡ t₂) × (e₁ ≡ e₂)
-equal-host-steps handle table piece event a b h₁ t₁ e₁ h₂ t₂ e₂ x y =
+pub equal-host-steps : (handle : List ℕ) (t : Memories) (piece event : List ℕ) (a b : ℕ) (h₁ e₁ h₂ e₂ : List ℕ) (t₁ t₂ : Memories)
+    → HostSteps handle t piece event a h₁ t₁ e₁ → HostSteps handle t piece event b h₂ t₂ e₂ → (a ≡ b) × (h₁ ≡ h₂) × (t₁ ≡ t₂) × (e₁ ≡ e₂)
+equal-host-steps handle t piece event a b h₁ e₁ h₂ e₂ t₁ t₂ x y =
     let e : hostStepped a h₁ t₁ e₁ ≡ hostStepped b h₂ t₂ e₂ = equal-answers x y in
-    (ap (λ (q : hosts.Stepped). q .number) e, ap (λ (q : hosts.Stepped). q .handle) e, ap (λ (q : hosts.Stepped). q .table) e, ap (λ (q : hosts.Stepped). q .event) e)
+    (ap (λ (q : hosts.Stepped). q .number) e, ap (λ (q : hosts.Stepped). q .handle) e, ap (λ (q : hosts.Stepped). q .memory) e, ap (λ (q : hosts.Stepped). q .event) e)
 
 -- THEOREM, of a refusal by name: what is promised of its number fixes it
 pub equal-names : (r q : Refusal) → refusalNumber r ≡ refusalNumber q → r ≡ q
@@ -132,7 +133,7 @@ why-back (why.Refused r) = ap why.Refused (name-back r)
 why-back why.Ceiling = refl
 why-back why.More = refl
 
-pub same-runs : (a b : Ran) (t t′ : List ℕ) → seenRunOf a t ≡ seenRunOf b t′ → SameRun a b t t′
+pub same-runs : (a b : Ran) (t t′ : Memories) → seenRunOf a t ≡ seenRunOf b t′ → SameRun a b t t′
 same-runs a b t t′ e =
     let r = same-readers (a .reader) (b .reader) t t′ (ap (λ (q : SeenRun). q .run .state) e) (ap (λ (q : SeenRun). q .used) e) in
     record {
@@ -144,16 +145,16 @@ same-runs a b t t′ e =
     }
 
 -- THEOREM, of a run
-pub equal-runs : (r : Reader) (t piece : List ℕ) (n : ℕ) (a b : Ran) (t₁ t₂ : List ℕ) → Running r t piece n a t₁ → Running r t piece n b t₂
+pub equal-runs : (r : Reader) (t : Memories) (piece : List ℕ) (n : ℕ) (a b : Ran) (t₁ t₂ : Memories) → Running r t piece n a t₁ → Running r t piece n b t₂
     → SameRun a b t₁ t₂
 equal-runs r t piece n a b t₁ t₂ x y = same-runs a b t₁ t₂ (equal-answers x y)
 
 -- THEOREM, of a run where a handle lies: every byte that it leaves agrees
-pub equal-host-runs : (handle table piece : List ℕ) (n a b : ℕ) (h₁ t₁ h₂ t₂ : List ℕ) → HostRuns handle table piece n a h₁ t₁
-    → HostRuns handle table piece n b h₂ t₂ → (a ≡ b) × (h₁ ≡ h₂) × (t₁ ≡ t₂)
-equal-host-runs handle table piece n a b h₁ t₁ h₂ t₂ x y =
+pub equal-host-runs : (handle : List ℕ) (t : Memories) (piece : List ℕ) (n a b : ℕ) (h₁ h₂ : List ℕ) (t₁ t₂ : Memories)
+    → HostRuns handle t piece n a h₁ t₁ → HostRuns handle t piece n b h₂ t₂ → (a ≡ b) × (h₁ ≡ h₂) × (t₁ ≡ t₂)
+equal-host-runs handle t piece n a b h₁ h₂ t₁ t₂ x y =
     let e : left a h₁ t₁ ≡ left b h₂ t₂ = equal-answers x y in
-    (ap (λ (q : Left). q .number) e, ap (λ (q : Left). q .handle) e, ap (λ (q : Left). q .table) e)
+    (ap (λ (q : Left). q .number) e, ap (λ (q : Left). q .handle) e, ap (λ (q : Left). q .memory) e)
 
 -- ---- of starting
 
@@ -167,7 +168,7 @@ answers-same (started.Refused r) started.Ready e = absurd (some-name r e)
 answers-same (started.Refused r) (started.Refused q) e = ap started.Refused (equal-names r q e)
 
 -- THEOREM, of starting
-pub equal-starts : (t : List ℕ) (a b : Started) (t₁ t₂ : List ℕ) → Starting t a t₁ → Starting t b t₂ → SameStart a b t₁ t₂
+pub equal-starts : (t : Memories) (a b : Started) (t₁ t₂ : Memories) → Starting t a t₁ → Starting t b t₂ → SameStart a b t₁ t₂
 equal-starts t a b t₁ t₂ x y =
     let e : begunOf a t₁ ≡ begunOf b t₂ = equal-answers x y in
     let r = same-readers (a .reader) (b .reader) t₁ t₂ (ap (λ (q : Begun). q .state) e) (ap (λ (q : Begun). q .used) e) in
@@ -182,7 +183,7 @@ equal-saves r t out a b z₁ z₂ x y =
     (ap (λ (s : Saving). s .answer) e, ap (λ (s : Saving). s .out) e)
 
 -- THEOREM, of restoring
-pub equal-restores : (bytes t : List ℕ) (a b : Restored) (t₁ t₂ : List ℕ) → Restores bytes t a t₁ → Restores bytes t b t₂ → SameRestore a b t₁ t₂
+pub equal-restores : (bytes : List ℕ) (t : Memories) (a b : Restored) (t₁ t₂ : Memories) → Restores bytes t a t₁ → Restores bytes t b t₂ → SameRestore a b t₁ t₂
 equal-restores bytes t a b t₁ t₂ x y =
     let e : cameOf a t₁ ≡ cameOf b t₂ = equal-answers x y in
     let r = same-readers (a .reader) (b .reader) t₁ t₂ (ap (λ (q : Came). q .state) e) (ap (λ (q : Came). q .used) e) in

@@ -3,9 +3,10 @@
 use mathlib.Core.Path.{_≡_, refl, sym, ap, _∙_, subst}
 use mathlib.Core.Logic.{_⊎_, inl, inr}
 use mathlib.Core.List.{List, _++_}
-use mathlib.Core.Bool.{true}
+use mathlib.Core.Bool.{true, false}
 use Prim.Native.Nat.{ℕ, _-_, _≤_}
 use native.Mathlib.Omega.{arith}
+use borrow.Author.Tests.{ne-eqb}
 use lib.ListN.{length}
 use Rattle.field.specs.Bytes.{Bytes}
 use Rattle.field.specs.Limits.{highestNumber}
@@ -26,14 +27,15 @@ use Rattle.packet.proofs.Rules.{never}
 use Rattle.packet.proofs.Frame.{short-fits}
 use Rattle.packet.proofs.Known.{Known, packet-known}
 use Rattle.packet.proofs.Keep.{VerdictHas}
+use Rattle.table.specs.Memory.{Memories}
 use Rattle.reader.specs.Refusals.{standing}
 use Rattle.reader.specs.Deliver.{Table, tableOf, Said, deliver}
 use Rattle.reader.specs.View.{stateOf, Seen, seenOf, seen, sessionIn, heldIn}
-use Rattle.reader.specs.Limits.{withinLimits}
-use Rattle.reader.specs.Calls.{stepAll, Stepping}
+use Rattle.reader.specs.Limits.{withinLimits, mayStep}
+use Rattle.reader.specs.Calls.{isUnfit, stepIn, stepAll, Stepping}
 use Rattle.reader.specs.declared.Reader.{Reader}
 use Rattle.reader.specs.declared.Stepped.{Stepped}
-use Rattle.reader.proofs.Kept.{limits-hold}
+use Rattle.reader.proofs.Kept.{Within, limits-hold, steps-hold}
 use Rattle.reader.proofs.Views.{session-in, held-in}
 use Rattle.demands.specs.Sound.{begin, SoundSession, Ours}
 use Rattle.packet.proofs.Bytes.{bytes-none, bytes-append, frame-bytes}
@@ -118,6 +120,46 @@ step-kept (live s held) piece b k =
 step-kept (ended s held) piece b k = k
 step-kept (refused s held e n) piece b k = k
 
+-- ---- AND NO STEP IS LED ASTRAY
+
+abbrev pub AnswerStood : stream.Answer (Event Said) → Type 0
+AnswerStood (stream.Event e) = Unit
+AnswerStood stream.More = Unit
+AnswerStood stream.Ended = Unit
+AnswerStood (stream.Refused n) = standing n ≡ true
+
+judged-stood : (n : ℕ) (v : stream.Verdict (Session Table) (Event Said)) → VerdictHas SoundSession Stands v → AnswerStood (stepJudged n v .answer)
+judged-stood n (accept e s) h = tt
+judged-stood n (finish e s) h = tt
+judged-stood n (refuse k s) h = h .1
+
+framed-stood : (s : Session Table) (held piece : List ℕ) (f : Framed) → SoundSession s → Bytes (held ++ piece) → frame (held ++ piece) ≡ f
+    → AnswerStood (stepFramed (soupBinTCP deliver) s held piece f .answer)
+framed-stood s held piece short h b e = tt
+framed-stood s held piece (badLength r) h b e = fault-stands fault.BadLength
+framed-stood s held piece (packet l body r) h b e =
+    judged-stood (length piece - length r) (soupBinTCP deliver s l body) (packet-sound s l body (frame-bytes (held ++ piece) e b) h)
+
+-- a refusal that a step of what is kept gives may stand
+pub step-stood : (st : State (Session Table)) (piece : List ℕ) → Bytes piece → Kept st → AnswerStood (stepOf (soupBinTCP deliver) st piece .answer)
+unfolding stepOf
+step-stood (live s held) piece b k =
+    framed-stood s held piece (frame (held ++ piece)) (k .sound) (bytes-append held piece (k .bytes) b) refl
+step-stood (ended s held) piece b k = tt
+step-stood (refused s held e n) piece b k = k .stands
+
+-- so that it is not 20
+pub stood-fit : (a : stream.Answer (Event Said)) → AnswerStood a → isUnfit a ≡ false
+unfolding standing
+stood-fit (stream.Event e) h = refl
+stood-fit stream.More h = refl
+stood-fit stream.Ended h = refl
+stood-fit (stream.Refused n) h = ne-eqb n 20 (λ z. never (sym (ap standing z) ∙ h))
+
+pub unheeded : (st : State (Session Table)) (piece : List ℕ) → Bytes piece → Kept st → stepIn st piece ≡ stepOf (soupBinTCP deliver) st piece
+unfolding stepIn
+unheeded st piece b k = rw (stood-fit (stepOf (soupBinTCP deliver) st piece .answer) (step-stood st piece b k))
+
 unfinished-by : (st : State (Session Table)) → frame (heldIn st) ≡ short → Unfinished st
 unfinished-by (live s held) h = h
 unfinished-by (ended s held) h = tt
@@ -125,7 +167,7 @@ unfinished-by (refused s held e n) h = tt
 
 -- ---- the same of a handle
 
-module _ (r : Reader) (t : List ℕ) where
+module _ (r : Reader) (t : Memories) where
   pub ours-kept : Ours r t → Kept (stateOf r t)
   ours-kept o =
       record {
@@ -149,29 +191,34 @@ module _ (r : Reader) (t : List ℕ) where
         bytes = subst Bytes (held-in r t) (k .bytes);
       }
 
-  -- THEOREM: what our own calls make is within the limits of a handle
-  pub ours-within : Ours r t → withinLimits r t ≡ true
-  ours-within o =
-      limits-hold r t
-      (record {
+  -- THEOREM: what our own calls make is within the limits of a handle, and may step
+  within-of : Ours r t → Within r (t .table)
+  within-of o =
+      record {
         fitted = sound-fits (tableOf (r .board) t) (o .sound .about);
         some = o .sound .range .some;
         most = o .sound .range .most;
         start = o .used;
         short = o .short;
         stands = o .stands;
-      })
+      }
 
-  -- a step within the limits is the definition's
-  pub stepping-is : (piece : List ℕ) (s : Stepped) (t′ : List ℕ) → withinLimits r t ≡ true → Stepping r t piece s t′
+  pub ours-within : Ours r t → withinLimits r (t .table) ≡ true
+  ours-within o = limits-hold r (t .table) (within-of o)
+
+  pub ours-may : Ours r t → mayStep r t ≡ true
+  ours-may o = steps-hold r t (within-of o) (o .sound .about .index .sized)
+
+  -- a step of what is ours is the definition's, for its index does not lead it astray
+  pub stepping-is : (piece : List ℕ) (s : Stepped) (t′ : Memories) → Ours r t → Bytes piece → Stepping r t piece s t′
       → seenOf s t′ ≡ seen (stepOf (soupBinTCP deliver) (stateOf r t) piece)
   unfolding stepAll
-  stepping-is piece s t′ e h = rw e at h
+  stepping-is piece s t′ o b h = (rw (ours-may o) at h) ∙ ap seen (unheeded (stateOf r t) piece b (ours-kept o))
 
 -- THEOREM: a step of what is ours, with any bytes, leaves what is ours
-pub step-ours : (r : Reader) (t piece : List ℕ) (s : Stepped) (t′ : List ℕ) → Ours r t → Bytes piece → Stepping r t piece s t′ → Ours (s .reader) t′
+pub step-ours : (r : Reader) (t : Memories) (piece : List ℕ) (s : Stepped) (t′ : Memories) → Ours r t → Bytes piece → Stepping r t piece s t′ → Ours (s .reader) t′
 step-ours r t piece s t′ o b h =
-    let x = stepping-is r t piece s t′ (ours-within r t o) h in
+    let x = stepping-is r t piece s t′ o b h in
     let st = stepOf (soupBinTCP deliver) (stateOf r t) piece .state in
     let k = step-kept (stateOf r t) piece b (ours-kept r t o) in
     let u : s .reader .used ≡ length (heldIn st) = ap (λ (q : Seen). q .used) x in

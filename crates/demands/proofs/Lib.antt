@@ -7,6 +7,7 @@ pub mod Equal
 pub mod Runs
 pub mod Callers
 pub mod Refused
+pub mod Astray
 pub mod Cases
 pub mod Wrong
 pub mod Saved

@@ -1,6 +1,6 @@
 -- PRICES: a message that is told holds no zero as a price above zero, and a side that it sets is seen and reads as its price, or as none.
 -- Assumes nothing.
-use mathlib.Core.Path.{_≡_, refl, _∙_, subst}
+use mathlib.Core.Path.{_≡_, refl, ap, _∙_, subst}
 use mathlib.Core.Bool.{true}
 use mathlib.Core.List.{List}
 use Prim.Native.Nat.{ℕ}
@@ -21,16 +21,16 @@ use Rattle.message.proofs.NoZero.{kept-no-zero}
 use Rattle.packet.specs.Session.{Delivered, done, denied}
 use Rattle.row.specs.Fields.{sidesOf, priceOf, hasSeen}
 use Rattle.row.specs.Changes.{quoted}
-use Rattle.table.specs.Memory.{row}
-use Rattle.table.specs.Board.{accepted, look, applyOf}
+use Rattle.table.specs.Memory.{Memories, row}
+use Rattle.table.specs.Board.{Indexed, beside, outcome, accepted, look, applyOf}
 use Rattle.table.specs.Places.{quotedIn}
 use Rattle.table.specs.declared.Board.{Board}
-use Rattle.table.specs.declared.Found.the-variants.{At}
+use Rattle.table.specs.declared.index.Sought.the-variants.{Here}
 use Rattle.table.specs.declared.Verdict.{Verdict}
 use Rattle.table.specs.declared.Verdict.the-variants.{Accepted, Refused}
 use Rattle.table.proofs.Quotes.{quoted-price}
 use Rattle.table.proofs.Kept.{quoted-seen}
-use Rattle.reader.specs.Deliver.{Table, tableOf, Said, said, settledBy, heard, deliver}
+use Rattle.reader.specs.Deliver.{Table, tableOf, tableBy, Said, said, settledBy, heard, deliver}
 use Rattle.demands.specs.Sound.{SoundTable}
 
 -- ---- an accepted message was read, and then applied
@@ -38,27 +38,27 @@ use Rattle.demands.specs.Sound.{SoundTable}
 pub record Taken (t : Table) (body : List ℕ) (x : Said) (t′ : Table) : Type 0 where
   pub read : readOf body .answer ≡ answer.Is (x .message)
   pub texts : readOf body .texts ≡ x .texts
-  pub applied : applyOf (t .board) (x .message) (x .texts) (t .memory) ≡ accepted (t′ .board) (t′ .memory)
+  pub applied : applyOf (t .board) (x .message) (x .texts) (t .memory) ≡ beside (t′ .memory .index) (accepted (t′ .board) (t′ .memory .table))
 
 no-denial : {A : Type 0} {n : ℕ} {t t′ : Table} {x : Said} → _≡_ {A = Delivered Table Said} (denied n t) (done x t′) → A
 no-denial {n = n} {t = t} {t′ = t′} {x = x} e = let z : _≡_ {A = ℕ} 0 1 = cc in absurd (omega arith)
 
-settled-taken : (t t′ : Table) (body : List ℕ) (m : Message) (x : Said) (v : Verdict) (b : Board) (mem : List ℕ) → readOf body .answer ≡ answer.Is m
-    → applyOf (t .board) m (readOf body .texts) (t .memory) ≡ record { applied = record { board = b; verdict = v }; memory = mem }
-    → settledBy v (said m (readOf body .texts)) (tableOf b mem) ≡ done x t′ → Taken t body x t′
-settled-taken t t′ body m x Accepted b mem r a e =
+settled-taken : (t t′ : Table) (body : List ℕ) (m : Message) (x : Said) (v : Verdict) (b : Board) (l : Memories) → readOf body .answer ≡ answer.Is m
+    → applyOf (t .board) m (readOf body .texts) (t .memory) ≡ beside (l .index) (outcome (record { board = b; verdict = v }) (l .table))
+    → settledBy v (said m (readOf body .texts)) (tableOf b l) ≡ done x t′ → Taken t body x t′
+settled-taken t t′ body m x Accepted b l r a e =
     let f : said m (readOf body .texts) ≡ x = cc in
-    let g : tableOf b mem ≡ t′ = cc in
+    let g : tableOf b l ≡ t′ = cc in
     subst (λ (y : Said). Taken t body y t′) f
     (subst (Taken t body (said m (readOf body .texts))) g (record { read = r; texts = refl; applied = a }))
-settled-taken t t′ body m x (Refused n) b mem r a e = no-denial e
+settled-taken t t′ body m x (Refused n) b l r a e = no-denial e
 
 heard-taken : (t t′ : Table) (body : List ℕ) (x : Said) (a : answers.Answer) → readOf body .answer ≡ a → heard t (readOf body .texts) a ≡ done x t′
     → Taken t body x t′
 heard-taken t t′ body x (answer.Refused r) i e = no-denial e
 heard-taken t t′ body x (answer.Is m) i e =
     let o = applyOf (t .board) m (readOf body .texts) (t .memory) in
-    settled-taken t t′ body m x (o .applied .verdict) (o .applied .board) (o .memory) i refl e
+    settled-taken t t′ body m x (o .outcome .applied .verdict) (o .outcome .applied .board) (tableBy o .memory) i refl e
 
 pub deliver-taken : (t t′ : Table) (body : List ℕ) (x : Said) → deliver t body ≡ done x t′ → Taken t body x t′
 unfolding deliver
@@ -73,7 +73,7 @@ told-no-zero t t′ body b x d =
     kept-no-zero (x .message) (readOf body .texts) (read-typed body b (x .message) (r .read) .1)
 
 module _ (t t′ : Table) (body : List ℕ) (b : Bytes body) (s : SoundTable t) (x : Said) (d : deliver t body ≡ done x t′)
-    (k : ℕ) (w : look (t .board) (x .message) (t .memory) ≡ At k) (side : Side) (n : LongNumbers) (e : quotedIn (x .message) side ≡ quoted n) where
+    (k : ℕ) (w : look (t .board) (x .message) (t .memory) ≡ Here k) (side : Side) (n : LongNumbers) (e : quotedIn (x .message) side ≡ quoted n) where
   kept : messages.Typed (x .message) (x .texts) × (messages.keeps (x .message) (x .texts) ≡ true)
   kept =
       let r = deliver-taken t t′ body x d in
@@ -81,13 +81,13 @@ module _ (t t′ : Table) (body : List ℕ) (b : Bytes body) (s : SoundTable t) 
       subst (λ (u : Texts). messages.Typed (x .message) u × (messages.keeps (x .message) u ≡ true)) (r .texts) (y .0, y .1)
 
   -- a message that is accepted, on a table that our own calls made, and sets a side: its row has seen that side, and reads as the message's price
-  pub quote-shown : (hasSeen side (sidesOf (row k (t′ .memory))) ≡ true) × (priceOf side (row k (t′ .memory)) ≡ n .price)
+  pub quote-shown : (hasSeen side (sidesOf (row k (t′ .memory .table))) ≡ true) × (priceOf side (row k (t′ .memory .table)) ≡ n .price)
   quote-shown =
-      let r = deliver-taken t t′ body x d in (
-        quoted-seen (t .board) (x .message) (x .texts) (t .memory) (t′ .board) (t′ .memory) (s .rows) (kept .0) (kept .1) (r .applied) k w side n e,
-        quoted-price (t .board) (x .message) (x .texts) (t .memory) (t′ .board) (t′ .memory) (r .applied) k w side n e (kept .0) (kept .1),
+      let a = ap (λ (i : Indexed). i .outcome) (deliver-taken t t′ body x d .applied) in (
+        quoted-seen (t .board) (x .message) (x .texts) (t .memory) (t′ .board) (t′ .memory .table) (s .rows) (kept .0) (kept .1) a k w side n e,
+        quoted-price (t .board) (x .message) (x .texts) (t .memory) (t′ .board) (t′ .memory .table) a k w side n e (kept .0) (kept .1),
       )
 
   -- so a price of 0 reads as none
-  pub none-shown : n .price ≡ None → priceOf side (row k (t′ .memory)) ≡ None
+  pub none-shown : n .price ≡ None → priceOf side (row k (t′ .memory .table)) ≡ None
   none-shown p = quote-shown .1 ∙ p

@@ -15,7 +15,8 @@ use Rattle.packet.specs.Session.{Session, Event, login, soupBinTCP, anyLogin, l
 use Rattle.packet.proofs.Cut.{reading-cut}
 use Rattle.packet.proofs.Keep.{login-told, session-keeps, logged-stays, StateHas}
 use Rattle.packet.proofs.Resume.{resume}
-use Rattle.table.specs.Memory.{tableSize}
+use Rattle.table.specs.Memory.{tableSize, Memories}
+use Rattle.table.specs.Index.{indexSize}
 use Rattle.image.specs.Save.{sizeFor}
 use Rattle.image.specs.declared.Saved.{Saved}
 use Rattle.image.specs.declared.Saved.the-variants.{Whole}
@@ -23,7 +24,7 @@ use Rattle.image.specs.declared.Verdict.the-variants.{Accepted}
 use Rattle.reader.specs.Refusals.{standing}
 use Rattle.reader.specs.Deliver.{Table, Said, deliver}
 use Rattle.reader.specs.View.{sessionOf, heldOf, stateOf, sessionIn}
-use Rattle.reader.specs.Saving.{Saves, Came, restoreAll, Restores}
+use Rattle.reader.specs.Saving.{Saves, Restores}
 use Rattle.reader.specs.declared.Reader.{Reader}
 use Rattle.reader.specs.declared.Restored.{Restored}
 use Rattle.reader.proofs.Views.{session-in}
@@ -34,7 +35,7 @@ use Rattle.packet.proofs.Bytes.{bytes-none, bytes-append, bytes-right, login-by
 use Rattle.demands.proofs.View.{refusalIn, refusal-of}
 use Rattle.demands.proofs.Kept.{Kept, kept-ours, unfinished-in}
 use Rattle.demands.proofs.Callers.{steps-called, steps-read, steps-ours}
-use Rattle.demands.proofs.Saved.{ours-saved, comes-back}
+use Rattle.demands.proofs.Saved.{restored-unheld, ours-saved, comes-back}
 use Rattle.demands.proofs.Stopped.{Took, called-took, stopped-at}
 
 abbrev ran : List (Event Said) → State (Session Table) → Run (Session Table) (Event Said)
@@ -58,9 +59,9 @@ module _ (s₀ : Session Table) (held bs : List ℕ) (es : List (Event Said)) (s
       (bytes-right (at .accepted) (at .following) (subst Bytes (sym (at .whole)) (bytes-append held bs h b)))
 
   -- THEOREM
-  pub resumed : InRange (s .line) → LoggedIn (s .line) → (es₁ : List (Event Said)) (r₁ : Reader) (t₁ : List ℕ)
+  pub resumed : InRange (s .line) → LoggedIn (s .line) → (es₁ : List (Event Said)) (r₁ : Reader) (t₁ : Memories)
       → reading (soupBinTCP deliver) (live (restored s) []) (loginPacket (s .line .session) (s .line .next) ++ at .following) ≡ ran es₁ (stateOf r₁ t₁)
-      → (es₂ : List (Event Said)) (r₂ : Reader) (t₂ : List ℕ) → reading (soupBinTCP deliver) (live s₀ held) bs ≡ ran es₂ (stateOf r₂ t₂)
+      → (es₂ : List (Event Said)) (r₂ : Reader) (t₂ : Memories) → reading (soupBinTCP deliver) (live s₀ held) bs ≡ ran es₂ (stateOf r₂ t₂)
       → GoesOn s es es₁ es₂ r₁ t₁ r₂ t₂
   unfolding reading
   resumed range logged es₁ r₁ t₁ after es₂ r₂ t₂ never =
@@ -80,7 +81,7 @@ module _ (s₀ : Session Table) (held bs : List ℕ) (es : List (Event Said)) (s
         stopped = ap (λ (x : Run (Session Table) (Event Said)). x .events) one;
         unstopped = ap (λ (x : Run (Session Table) (Event Said)). x .events) two;
         state = same;
-        table = ap (λ (x : Session Table). x .about .memory) (sym (session-in r₁ t₁) ∙ ap sessionIn same ∙ session-in r₂ t₂);
+        memory = ap (λ (x : Session Table). x .about .memory) (sym (session-in r₁ t₁) ∙ ap sessionIn same ∙ session-in r₂ t₂);
         refusal = sym (refusal-of r₁ t₁) ∙ ap refusalIn same ∙ refusal-of r₂ t₂;
       }
 
@@ -105,8 +106,8 @@ restored-kept s h =
 
 -- A reader that our own calls made, and that has neither ended nor refused, is given bytes by steps and runs. It is logged in, or a login is among them,
 -- and it is stopped before any end.
-module _ (r₀ : Reader) (t₀ : List ℕ) (o₀ : Ours r₀ t₀) (open₀ : (r₀ .refusal ≡ 0) × (r₀ .ended ≡ false))
-    (bs : List ℕ) (bytes : Bytes bs) (es : List (Event Said)) (r : Reader) (t left : List ℕ) (before : Steps r₀ t₀ bs es r t left)
+module _ (r₀ : Reader) (t₀ : Memories) (o₀ : Ours r₀ t₀) (open₀ : (r₀ .refusal ≡ 0) × (r₀ .ended ≡ false))
+    (bs : List ℕ) (bytes : Bytes bs) (es : List (Event Said)) (r : Reader) (t : Memories) (left : List ℕ) (before : Steps r₀ t₀ bs es r t left)
     (logged : LoggedIn (r₀ .line) ⊎ (anyLogin es ≡ true)) (unended : r .ended ≡ false) where
   abbrev session₀ : Session Table
   session₀ = sessionOf (r₀ .line) (r₀ .board) t₀
@@ -131,13 +132,13 @@ module _ (r₀ : Reader) (t₀ : List ℕ) (o₀ : Ours r₀ t₀) (open₀ : (r
   is-logged-in : LoggedIn (r .line)
   is-logged-in = stopped-logged session₀ (heldOf r₀) bs es session stopped logged
 
-  -- it is saved to an output that is long enough, and restored from it to memory of the right length
-  module _ (out : List ℕ) (room : sizeFor (r .board .rows) ≤ length out) (a : Saved) (z : List ℕ) (save : Saves r t out a z)
-      (m : List ℕ) (long : length m ≡ tableSize) (q : Restored) (m′ : List ℕ)
+  -- it is saved to an output that is long enough, and restored from it to memories of the right lengths, whatever they hold
+  module _ (out : List ℕ) (room : sizeFor (r .board .rows) ≤ length out) (a : Saved) (z : List ℕ) (save : Saves r (t .table) out a z)
+      (m : Memories) (long : length (m .table) ≡ tableSize) (wide : length (m .index) ≡ indexSize) (q : Restored) (m′ : Memories)
       (restore : Restores (part z 0 (sizeFor (r .board .rows))) m q m′) where
     back : (q .verdict ≡ Accepted) × (stateOf (q .reader) m′ ≡ live (restored session) [])
     back =
-        let b = comes-back r t ours out room a z save m long q m′ restore in
+        let b = comes-back r t ours out room a z save m long wide q m′ restore in
         (b .0, b .1 ∙ rw (is-logged-in .known))
 
     -- THEOREM: neither is refused
@@ -146,15 +147,13 @@ module _ (r₀ : Reader) (t₀ : List ℕ) (o₀ : Ours r₀ t₀) (open₀ : (r
 
     -- THEOREM: the restored reader is again one that our own calls made, so that it may be stopped again
     pub restored-ours : Ours (q .reader) m′
-    unfolding restoreAll
-    restored-ours =
-        kept-ours (q .reader) m′ (subst Kept (sym (back .1)) (restored-kept session (ours .sound))) (omega (arith, ap (λ (c : Came). c .used) restore))
+    restored-ours = kept-ours (q .reader) m′ (subst Kept (sym (back .1)) (restored-kept session (ours .sound))) (omega (arith, restored-unheld (part z 0 (sizeFor (r .board .rows))) m q m′ restore))
 
     -- THEOREM: the restored reader is given a login for the saved session and number, and then the bytes that follow the last accepted packet. Its
-    -- later events, the table and any refusal are those of the caller that never stopped.
-    pub goes-on : (s : StoppedAt session₀ (heldOf r₀) bs es session) (es₁ : List (Event Said)) (r₁ : Reader) (t₁ left₁ : List ℕ)
+    -- later events, the table, its index and any refusal are those of the caller that never stopped.
+    pub goes-on : (s : StoppedAt session₀ (heldOf r₀) bs es session) (es₁ : List (Event Said)) (r₁ : Reader) (t₁ : Memories) (left₁ : List ℕ)
         → Steps (q .reader) m′ (loginPacket (r .line .session) (r .line .next) ++ s .following) es₁ r₁ t₁ left₁ → NothingLeft (stateOf r₁ t₁) left₁
-        → (es₂ : List (Event Said)) (r₂ : Reader) (t₂ left₂ : List ℕ)
+        → (es₂ : List (Event Said)) (r₂ : Reader) (t₂ : Memories) (left₂ : List ℕ)
         → Steps r₀ t₀ bs es₂ r₂ t₂ left₂ → NothingLeft (stateOf r₂ t₂) left₂
         → GoesOn session es es₁ es₂ r₁ t₁ r₂ t₂
     goes-on s es₁ r₁ t₁ left₁ after none₁ es₂ r₂ t₂ left₂ never none₂ =

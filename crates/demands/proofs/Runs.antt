@@ -12,18 +12,19 @@ use lib.ListN.{length, take, drop}
 use Rattle.field.specs.Bytes.{Bytes}
 use Rattle.packet.specs.Frame.{heldSize}
 use Rattle.packet.specs.Ceiling as ceiling
-use Rattle.packet.specs.Ceiling.{whyAtCeiling, _onward_, runOf}
-use Rattle.packet.specs.Stream.{State, live, ended, refused, Unfinished, Run, reading, Called}
+use Rattle.packet.specs.Ceiling.{whyAtCeiling, _onward_, runBy, runOf}
+use Rattle.packet.specs.Stream.{State, live, ended, refused, Unfinished, Run, reading, stepOf, Called}
 use Rattle.packet.specs.Session.{Session, Event, soupBinTCP}
 use Rattle.packet.proofs.Rules.{never}
 use Rattle.packet.proofs.Bytes.{bytes-drop}
 use Rattle.packet.proofs.Frame.{short-fits}
 use Rattle.packet.proofs.Ceiling as ceilings
-use Rattle.packet.proofs.Ceiling.{run-finished, run-state, run-onward, run-called, run-why, run-keeps}
+use Rattle.packet.proofs.Ceiling.{run-finished, run-state, run-onward, run-called, run-why, run-keeps, run-same}
+use Rattle.table.specs.Memory.{Memories}
 use Rattle.reader.specs.Refusals.{standing}
 use Rattle.reader.specs.Deliver.{Table, Said, deliver}
 use Rattle.reader.specs.View.{sessionOf, heldOf, stateOf, heldIn}
-use Rattle.reader.specs.Limits.{withinLimits}
+use Rattle.reader.specs.Calls.{stepIn}
 use Rattle.reader.specs.Running.{mostPackets, whyOf, SeenRun, seenRun, seenRunOf, refusedRun, runAll, Running}
 use Rattle.reader.specs.declared.Refusal.the-variants.{Unfit, HighCeiling}
 use Rattle.reader.specs.declared.Reader.{Reader}
@@ -33,18 +34,24 @@ use Rattle.reader.specs.declared.Ran.{Ran}
 use Rattle.demands.specs.Sound.{Ours}
 use Rattle.demands.specs.Same.{SameRun}
 use Rattle.demands.proofs.View.{refusalIn}
-use Rattle.demands.proofs.Kept.{Kept, ours-kept, kept-ours, ours-within, unfinished-in, step-kept}
+use Rattle.demands.proofs.Kept.{Kept, ours-kept, kept-ours, ours-may, unfinished-in, step-kept, unheeded}
 use Rattle.demands.proofs.Equal.{same-runs}
 
 -- a run of the definitions keeps what a step keeps
 pub run-kept : (n : ℕ) (st : State (Session Table)) (piece : List ℕ) → Bytes piece → Kept st → Kept (runOf (soupBinTCP deliver) n st piece .state)
-run-kept = run-keeps (soupBinTCP deliver) Kept Bytes bytes-drop step-kept
+run-kept = run-keeps (stepOf (soupBinTCP deliver)) Kept Bytes bytes-drop step-kept
 
--- a run within the limits, with an allowed ceiling, is the definition's
-pub running-is : (r : Reader) (t piece : List ℕ) (n : ℕ) (x : Ran) (t′ : List ℕ) → withinLimits r t ≡ true → n ≤ mostPackets → Running r t piece n x t′
-    → seenRunOf x t′ ≡ seenRun (runOf (soupBinTCP deliver) n (stateOf r t) piece)
+-- and is never led astray
+run-unheeded : (n : ℕ) (st : State (Session Table)) (piece : List ℕ) → Bytes piece → Kept st → runBy stepIn n st piece ≡ runOf (soupBinTCP deliver) n st piece
+run-unheeded n st piece b k =
+    sym (run-same (stepOf (soupBinTCP deliver)) stepIn Kept Bytes bytes-drop step-kept (λ st₁ p b₁ k₁. sym (unheeded st₁ p b₁ k₁)) n st piece b k)
+
+-- a run of what is ours, with an allowed ceiling, is the definition's
+pub running-is : (r : Reader) (t : Memories) (piece : List ℕ) (n : ℕ) (x : Ran) (t′ : Memories) → Ours r t → Bytes piece → n ≤ mostPackets
+    → Running r t piece n x t′ → seenRunOf x t′ ≡ seenRun (runOf (soupBinTCP deliver) n (stateOf r t) piece)
 unfolding runAll
-running-is r t piece n x t′ e l h = h ∙ rw (e, le-leb n mostPackets l)
+running-is r t piece n x t′ o b l h =
+    h ∙ (rw (ours-may r t o, le-leb n mostPackets l)) ∙ ap seenRun (run-unheeded n (stateOf r t) piece b (ours-kept r t o))
 
 -- In all but why it stopped, a call is a run of the definitions: where the ceiling is refused, the run with a ceiling of 0.
 pub record Runs (st : State (Session Table)) (piece : List ℕ) (x : SeenRun) : Type 0 where
@@ -54,12 +61,12 @@ pub record Runs (st : State (Session Table)) (piece : List ℕ) (x : SeenRun) : 
   pub finished : x .run .finished ≡ runOf (soupBinTCP deliver) upTo st piece .finished
   pub used : x .used ≤ heldSize
 
-module _ (r : Reader) (t piece : List ℕ) (n : ℕ) (o : Ours r t) (b : Bytes piece) where
+module _ (r : Reader) (t : Memories) (piece : List ℕ) (n : ℕ) (o : Ours r t) (b : Bytes piece) where
   abbrev by-ceiling : Bool → SeenRun
   by-ceiling allowed = cond allowed (seenRun (runOf (soupBinTCP deliver) n (stateOf r t) piece)) (refusedRun HighCeiling r t)
 
   by-runs : (y : Bool) → Runs (stateOf r t) piece (by-ceiling y)
-  unfolding runOf
+  unfolding runBy
   by-runs true =
       let k = run-kept n (stateOf r t) piece b (ours-kept r t o) in
       record {
@@ -73,7 +80,8 @@ module _ (r : Reader) (t piece : List ℕ) (n : ℕ) (o : Ours r t) (b : Bytes p
 
   pub all-runs : Runs (stateOf r t) piece (runAll r t piece n)
   unfolding runAll
-  all-runs = subst (Runs (stateOf r t) piece) (rw (ours-within r t o)) (by-runs (leb n mostPackets))
+  all-runs =
+      subst (Runs (stateOf r t) piece) (rw (ours-may r t o, run-unheeded n (stateOf r t) piece b (ours-kept r t o))) (by-runs (leb n mostPackets))
 
 module _ (st : State (Session Table)) (piece : List ℕ) (x : SeenRun) (u : Runs st piece x) (fine : Unfinished st) where
   abbrev reads : ℕ → Run (Session Table) (Event Said)
@@ -124,7 +132,7 @@ run-stands n st piece b k = by (run-why (soupBinTCP deliver) n st piece)
 
 -- ---- THE THEOREMS
 
-module _ (r : Reader) (t piece : List ℕ) (n : ℕ) (x : Ran) (t′ : List ℕ) (o : Ours r t) (b : Bytes piece) (h : Running r t piece n x t′) where
+module _ (r : Reader) (t : Memories) (piece : List ℕ) (n : ℕ) (x : Ran) (t′ : Memories) (o : Ours r t) (b : Bytes piece) (h : Running r t piece n x t′) where
   runs : Runs (stateOf r t) piece (seenRunOf x t′)
   runs = subst (Runs (stateOf r t) piece) (sym h) (all-runs r t piece n o b)
 
@@ -134,7 +142,7 @@ module _ (r : Reader) (t piece : List ℕ) (n : ℕ) (x : Ran) (t′ : List ℕ)
       kept-ours (x .reader) t′ (subst Kept (sym (runs .state)) (run-kept (runs .upTo) (stateOf r t) piece b (ours-kept r t o))) (runs .used)
 
   -- THEOREM: the number of packets finished is that of the accepted packets, the events, in the reading of the bytes taken, from the reader given; and
-  -- the reader and the table that are left are that reading's. With any ceiling.
+  -- the reader and the memories that are left are that reading's. With any ceiling.
   pub run-counts : (x .finished ≡ length (reading (soupBinTCP deliver) (stateOf r t) (take (x .taken) piece) .events))
       × (stateOf (x .reader) t′ ≡ reading (soupBinTCP deliver) (stateOf r t) (take (x .taken) piece) .state)
   run-counts = (
@@ -155,7 +163,7 @@ module _ (r : Reader) (t piece : List ℕ) (n : ℕ) (x : Ran) (t′ : List ℕ)
       let s : Session Table = sessionOf (r .line) (r .board) t in
       let st : stateOf r t ≡ live s (heldOf r) = rw (alive .0, alive .1) in
       let e : x .taken ≡ runOf (soupBinTCP deliver) n (live s (heldOf r)) piece .taken
-      = ap (λ (q : SeenRun). q .run .taken) (running-is r t piece n x t′ (ours-within r t o) most h)
+      = ap (λ (q : SeenRun). q .run .taken) (running-is r t piece n x t′ o b most h)
       ∙ ap (λ (q : State (Session Table)). runOf (soupBinTCP deliver) n q piece .taken) st in
       rw e (ceilings.run-gets-on (soupBinTCP deliver) n s (heldOf r) piece (o .short) some g)
 
@@ -164,13 +172,13 @@ module _ (r : Reader) (t piece : List ℕ) (n : ℕ) (x : Ran) (t′ : List ℕ)
   unfolding standing
   run-not-refused most =
       let s : WhyStands (whyOf (x .why))
-      = subst (λ (q : SeenRun). WhyStands (q .run .why)) (sym (running-is r t piece n x t′ (ours-within r t o) most h))
+      = subst (λ (q : SeenRun). WhyStands (q .run .why)) (sym (running-is r t piece n x t′ o b most h))
       (run-stands n (stateOf r t) piece b (ours-kept r t o)) in
       (λ e. never (subst (λ (w : Why). WhyStands (whyOf w)) e s), λ e. never (subst (λ (w : Why). WhyStands (whyOf w)) e s))
 
   -- THEOREM: A HIGHER CEILING FINISHES THE SAME PACKETS FIRST. A run with the ceiling `n`, and then one on what was not taken with `m - n`, is the run with
-  -- `m`: bytes and packets add up, and reader, table and reason are the same.
-  pub run-twice : (m : ℕ) → n < m → m ≤ mostPackets → (y z : Ran) (t″ u : List ℕ) → Running (x .reader) t′ (drop (x .taken) piece) (m - n) y t″
+  -- `m`: bytes and packets add up, and reader, memories and reason are the same.
+  pub run-twice : (m : ℕ) → n < m → m ≤ mostPackets → (y z : Ran) (t″ u : Memories) → Running (x .reader) t′ (drop (x .taken) piece) (m - n) y t″
       → Running r t piece m z u
       → SameRun z (record { reader = y .reader; taken = x .taken + y .taken; finished = x .finished + y .finished; why = y .why }) u t″
   run-twice m l most y z t″ u second whole =
@@ -178,12 +186,12 @@ module _ (r : Reader) (t piece : List ℕ) (n : ℕ) (x : Ran) (t′ : List ℕ)
       let d : ℕ = m - n - 1 in
       let more : m - n ≡ suc d = omega arith in
       let sum : m ≡ n + suc d = omega arith in
-      let one : seenRunOf x t′ ≡ seenRun (runOf j n (stateOf r t) piece) = running-is r t piece n x t′ (ours-within r t o) (omega arith) h in
+      let one : seenRunOf x t′ ≡ seenRun (runOf j n (stateOf r t) piece) = running-is r t piece n x t′ o b (omega arith) h in
       let two : seenRunOf y t″ ≡ seenRun (runOf j (suc d) (stateOf (x .reader) t′) (drop (x .taken) piece))
-      = running-is (x .reader) t′ (drop (x .taken) piece) (m - n) y t″ (ours-within (x .reader) t′ run-ours) (omega arith) second
+      = running-is (x .reader) t′ (drop (x .taken) piece) (m - n) y t″ run-ours (bytes-drop (x .taken) piece b) (omega arith) second
       ∙ ap (λ (k : ℕ). seenRun (runOf j k (stateOf (x .reader) t′) (drop (x .taken) piece))) more in
       let all : seenRunOf z u ≡ seenRun (runOf j (n + suc d) (stateOf r t) piece)
-      = running-is r t piece m z u (ours-within r t o) most whole ∙ ap (λ (k : ℕ). seenRun (runOf j k (stateOf r t) piece)) sum in
+      = running-is r t piece m z u o b most whole ∙ ap (λ (k : ℕ). seenRun (runOf j k (stateOf r t) piece)) sum in
       same-runs z _ u t″
       (all
       ∙ ap seenRun (run-onward j n d (stateOf r t) piece)

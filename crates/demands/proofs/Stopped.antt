@@ -13,11 +13,12 @@ use Rattle.packet.proofs.Frame.{frame-grows, frame-left}
 use Rattle.packet.proofs.Cut.{EachPacket, each-packet, reading-at, reading-cut, reading-none}
 use Rattle.packet.proofs.Step.{taken-ends, step-taken, step-unfinished}
 use Rattle.packet.proofs.Refused.{session-leaves, refused-as-before}
+use Rattle.table.specs.Memory.{Memories}
 use Rattle.reader.specs.Deliver.{Table, Said, deliver}
 use Rattle.reader.specs.View.{sessionOf, heldOf, stateOf}
 use Rattle.reader.specs.declared.Reader.{Reader}
+use Rattle.reader.proofs.Undone.{deliver-undone}
 use Rattle.demands.specs.Stopped.{StoppedAt}
-use Rattle.demands.proofs.Applied.{deliver-undone}
 
 -- ---- calls took a front part of the bytes, and told the reading of it
 
@@ -102,7 +103,7 @@ module _ {S E : Type 0} (judge : S → ℕ → List ℕ → Verdict S E) where
 
 -- ---- THE STOP: a reader that was stopped, live or refused
 
-module _ (s₀ : Session Table) (held bs left : List ℕ) {es : List (Event Said)} (r : Reader) (t : List ℕ)
+module _ (s₀ : Session Table) (held bs left : List ℕ) {es : List (Event Said)} (r : Reader) (t : Memories)
     (k : Took (soupBinTCP deliver) (live s₀ held) bs es (stateOf r t) left) (unended : r .ended ≡ false) where
   abbrev session : Session Table
   session = sessionOf (r .line) (r .board) t

@@ -8,6 +8,7 @@ use borrow.Author.Tests.{eqb-true}
 use lib.Dec.{eqb}
 use Rattle.packet.specs.Stream.{State, live, ended, refused}
 use Rattle.packet.specs.Session.{Session}
+use Rattle.table.specs.Memory.{Memories}
 use Rattle.reader.specs.Deliver.{Table}
 use Rattle.reader.specs.View.{sessionOf, heldOf, stateOf}
 use Rattle.reader.specs.declared.Reader.{Reader}
@@ -40,7 +41,7 @@ module _ (s : Session Table) (held : List ℕ) (n : ℕ) where
   refusal-at true false h = sym (eqb-true n 0 h)
   refusal-at false e h = refl
 
-module _ (r : Reader) (memory : List ℕ) where
+module _ (r : Reader) (memory : Memories) where
   pub ended-of : endedIn (stateOf r memory) ≡ r .ended
   ended-of = ended-at (sessionOf (r .line) (r .board) memory) (heldOf r) (r .refusal) (eqb (r .refusal) 0) (r .ended)
 

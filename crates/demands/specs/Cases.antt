@@ -19,6 +19,7 @@ use Rattle.packet.specs.Line.{freshLine, loggedIn}
 use Rattle.packet.specs.Session as packets
 use Rattle.packet.specs.Session.{Session}
 use Rattle.row.specs.Changes.{widened}
+use Rattle.table.specs.Memory.{Memories}
 use Rattle.table.specs.Board.{freshBoard}
 use Rattle.block.specs.Block.{blockSize, checkedSize}
 use Rattle.reader.specs.Deliver.{Table, Said}
@@ -72,8 +73,8 @@ readerIn (live s held) = readerBy s held false 0
 readerIn (stream.ended s held) = readerBy s held true 0
 readerIn (stream.refused s held e n) = readerBy s held e n
 
--- a step with each piece, of the reader and the memory that the step before it left
-unfoldable pub calls : Reader → List ℕ → List (List ℕ) → List Told
+-- a step with each piece, of the reader and the memories that the step before it left
+unfoldable pub calls : Reader → Memories → List (List ℕ) → List Told
 calls r memory [] = []
 calls r memory (piece ∷ pieces) =
     let s = stepAll r memory piece .step in
@@ -115,14 +116,14 @@ savedAs w = cond (eqb (w .refusal) 0) (blocks (w .count / blockSize) (part (w .o
 abbrev pub freshSaved : List ℕ → Written
 freshSaved t = saveAll (readyOf freshLine freshBoard) t (replicate blockSize 0)
 
--- with that table memory
-abbrev pub answered : List ℕ → Question → Answer
+-- with those memories
+abbrev pub answered : Memories → Question → Answer
 answered t (fresh pieces) = told (calls (readyOf freshLine freshBoard) t pieces)
 answered t (loggedOn pieces) = told (calls (readyOf (loggedIn freshLine (replicate 10 65)) freshBoard) t pieces)
 answered t (time m) = number (timeIn (readOf m .answer))
 answered t (accepted m) = number (refusalIn (readOf m .answer))
 answered t (kept m) = number (priceIn (readOf m .answer))
-answered t freshImage = savedAs (freshSaved t)
+answered t freshImage = savedAs (freshSaved (t .table))
 
 -- ---- messages around a field
 

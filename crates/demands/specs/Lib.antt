@@ -4,3 +4,4 @@ pub mod Refused
 pub mod Sound
 pub mod Cases
 pub mod Stopped
+pub mod Astray

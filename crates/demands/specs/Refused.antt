@@ -1,9 +1,8 @@
 -- What a refusal leaves.
 -- Assumes nothing.
-use Prim.Native.Nat.{ℕ}
 use mathlib.Core.Path.{_≡_}
 use mathlib.Core.Bool.{false}
-use mathlib.Core.List.{List}
+use Rattle.table.specs.Memory.{Memories}
 use Rattle.reader.specs.Refusals.{refusalNumber}
 use Rattle.reader.specs.View.{noText}
 use Rattle.reader.specs.declared.Refusal.{Refusal}
@@ -12,8 +11,8 @@ use Rattle.reader.specs.declared.Stepped.{Stepped}
 use Rattle.reader.specs.declared.Why.{Why}
 use Rattle.reader.specs.declared.Ran.{Ran}
 
--- refusals 1 to 16: the table and the handle are as they were, but nothing is held and the refusal stands
-pub record Leaves (r : Reader) (t : List ℕ) (x : Refusal) (s : Stepped) (t′ : List ℕ) : Type 0 where
+-- refusals 1 to 16: the table, its index and the handle are as they were, but nothing is held and the refusal stands
+pub record Leaves (r : Reader) (t : Memories) (x : Refusal) (s : Stepped) (t′ : Memories) : Type 0 where
   pub memory : t′ ≡ t
   pub line : s .reader .line ≡ r .line
   pub board : s .reader .board ≡ r .board

@@ -1,8 +1,7 @@
 -- Equal answers: readers are compared by all that they have, but for the places past the held bytes.
 -- Assumes nothing.
-use Prim.Native.Nat.{ℕ}
 use mathlib.Core.Path.{_≡_}
-use mathlib.Core.List.{List}
+use Rattle.table.specs.Memory.{Memories}
 use Rattle.reader.specs.View.{heldOf}
 use Rattle.reader.specs.declared.Reader.{Reader}
 use Rattle.reader.specs.declared.Stepped.{Stepped}
@@ -19,7 +18,7 @@ pub record SameReader (a b : Reader) : Type 0 where
   pub held : heldOf a ≡ heldOf b
 
 -- two answers of a step, and the memories that they leave
-pub record SameStep (a b : Stepped) (t t′ : List ℕ) : Type 0 where
+pub record SameStep (a b : Stepped) (t t′ : Memories) : Type 0 where
   pub reader : SameReader (a .reader) (b .reader)
   pub taken : a .taken ≡ b .taken
   pub answer : a .answer ≡ b .answer
@@ -27,7 +26,7 @@ pub record SameStep (a b : Stepped) (t t′ : List ℕ) : Type 0 where
   pub memory : t ≡ t′
 
 -- and of a run
-pub record SameRun (a b : Ran) (t t′ : List ℕ) : Type 0 where
+pub record SameRun (a b : Ran) (t t′ : Memories) : Type 0 where
   pub reader : SameReader (a .reader) (b .reader)
   pub taken : a .taken ≡ b .taken
   pub finished : a .finished ≡ b .finished
@@ -35,13 +34,13 @@ pub record SameRun (a b : Ran) (t t′ : List ℕ) : Type 0 where
   pub memory : t ≡ t′
 
 -- and of starting
-pub record SameStart (a b : Started) (t t′ : List ℕ) : Type 0 where
+pub record SameStart (a b : Started) (t t′ : Memories) : Type 0 where
   pub reader : SameReader (a .reader) (b .reader)
   pub answer : a .answer ≡ b .answer
   pub memory : t ≡ t′
 
 -- and of restoring
-pub record SameRestore (a b : Restored) (t t′ : List ℕ) : Type 0 where
+pub record SameRestore (a b : Restored) (t t′ : Memories) : Type 0 where
   pub reader : SameReader (a .reader) (b .reader)
   pub verdict : a .verdict ≡ b .verdict
   pub memory : t ≡ t′
