@@ -1,11 +1,11 @@
 -- The ways through the calls: a law for each.
 -- Assumes nothing.
-use mathlib.Core.Path.{_≡_, refl, sym, ap, _∙_, subst}
+use mathlib.Core.Path.{_≡_, refl, sym, ap, _∙_}
 use mathlib.Core.Bool.{Bool, true, false, not, cond}
 use mathlib.Core.List.{List, []}
 use Prim.Native.Nat.{ℕ, _+_, _*_, _≤_, _<_}
 use native.Mathlib.Omega.{arith}
-use borrow.Author.Tests.{eq-eqb, ne-eqb, le-leb, lt-leb, leb-true}
+use borrow.Author.Tests.{eq-eqb, ne-eqb, le-leb, lt-leb, leb-true, eqb-true}
 use lib.Dec.{eqb, leb}
 use lib.ListN.{length, drop, take, replicate, length-replicate}
 use lib.Seq.{length-take-le, take-at}
@@ -14,7 +14,7 @@ use Rattle.field.specs.Limits.{numberInRange}
 use Rattle.field.proofs.Parts.{overlay-none}
 use Rattle.field.proofs.Bools.{both-left, both-right}
 use Rattle.packet.specs.Frame.{heldSize}
-use Rattle.packet.proofs.Rules.{and-both, not-call, not-not-call}
+use Rattle.packet.proofs.Rules.{both, and-both, not-call, not-not-call}
 use Rattle.handle.specs.Handle.{handleSize, isHandle, headOf, handleBytes}
 use Rattle.handle.specs.declared.Head.{Head}
 use Rattle.handle.proofs.Rounds.{HeadFits, handle-length}
@@ -31,6 +31,7 @@ use Rattle.reader.specs.declared.Restored.{Restored}
 use Rattle.reader.specs.declared.Refusal.{Refusal}
 use Rattle.reader.specs.declared.StartAnswer.{StartAnswer}
 use Rattle.reader.specs.declared.StartAnswer.the-variants as started
+use Rattle.reader.proofs.Kept.{may-unless-limits, may-unless-index, may-by}
 use Rattle.reader.proofs.Views.{head-in, memory-in, reader-back}
 use Rattle.block.specs.Block.{blockSize}
 use Rattle.image.specs.Header as headers
@@ -43,10 +44,11 @@ use Rattle.image.proofs.Rounds.{stored}
 use Rattle.image.specs.declared.Saved.{Saved}
 use Rattle.image.specs.declared.Saved.the-variants as saved
 use Rattle.row.specs.Fields.{rowSize}
-use Rattle.table.specs.Memory.{mostRows, tableSize, rowsFit, Fitting, rowFor}
-use Rattle.table.specs.declared.Found.{Found}
-use Rattle.table.specs.declared.Found.the-variants.{At, Nothing}
-use Rattle.table.proofs.Search.{found}
+use Rattle.table.specs.Memory.{mostRows, tableSize, rowsFit, Fitting, Memories, memories}
+use Rattle.table.specs.Index.{placeSize, indexSize, isIndex, sought}
+use Rattle.table.specs.declared.index.Sought.{Sought}
+use Rattle.table.specs.declared.index.Sought.the-variants.{Here, Absent, Astray}
+use Rattle.table.proofs.IndexPlaces.{here-has}
 use Rattle.table.proofs.Ways.{rows-fitting}
 use Rattle.table.specs.Board.{fits}
 use Rattle.listing.specs.Lines.{lineIn, lineSize, endingOf, lineOf, lineWith, noLine, shownOf}
@@ -57,14 +59,14 @@ use Rattle.nelqubat.specs.Host.{noHeld, unheld, startedAs, startHost, St
 
 -- ---- a reader that holds nothing, over a handle
 
-unheld-as : (r : Reader) (memory handle : List ℕ) (h : Head) (n : ℕ) → h ≡ headPart r → handle ≡ handleBytes h noHeld
+unheld-as : (r : Reader) (memory : Memories) (handle : List ℕ) (h : Head) (n : ℕ) → h ≡ headPart r → handle ≡ handleBytes h noHeld
     → left n handle memory ≡ unheld n (stateOf r memory) (r .used)
 unheld-as r memory handle h n e f =
     ap (λ (x : List ℕ). left n x memory) (f ∙ ap (λ (x : Head). handleBytes x noHeld) (e ∙ sym (head-in r memory)))
     ∙ ap (left n (handleBytes (headIn (stateOf r memory) (r .used)) noHeld)) (sym (memory-in r memory))
 
 -- and it is that reader
-unheld-on : (r : Reader) (memory handle : List ℕ) (h : Head) → h ≡ headPart r → handle ≡ handleBytes h noHeld → HeadFits h → r .used ≡ 0
+unheld-on : (r : Reader) (memory : Memories) (handle : List ℕ) (h : Head) → h ≡ headPart r → handle ≡ handleBytes h noHeld → HeadFits h → r .used ≡ 0
     → stateOf (readerIn handle) memory ≡ stateOf r memory
 unheld-on r memory handle h e f fits none =
     let unused : heldOf (readerWith (headPart r) noHeld) ≡ heldOf r = rw none in
@@ -74,41 +76,45 @@ unheld-on r memory handle h e f fits none =
 
 -- ---- starting and restoring
 
-module _ (handle table : List ℕ) where
+-- what comes back holds nothing
+restored-unheld : (image : List ℕ) (memory : Memories) → restoreAll image memory .used ≡ 0
+unfolding restoreAll
+restored-unheld image memory = both (λ (c : Came). c .used ≡ 0) (isIndex (memory .index)) (λ e. refl) (λ e. refl)
+
+module _ (handle : List ℕ) (memory : Memories) where
   pub start-none : {A : Type 0} → (length handle ≡ handleSize → ⊥) → length handle ≡ handleSize → A
   start-none d l = absurd (d l)
 
-  pub start-on : (handle′ table′ : List ℕ) (s : Started) (h : Head) → HeadFits h → Starting table s table′ → h ≡ headPart (s .reader) → handle′ ≡ handleBytes h noHeld
-      → StartsOn handle table handle′ table′
+  pub start-on : (handle′ : List ℕ) (memory′ : Memories) (s : Started) (h : Head) → HeadFits h → Starting memory s memory′ → h ≡ headPart (s .reader) → handle′ ≡ handleBytes h noHeld
+      → StartsOn handle memory handle′ memory′
   unfolding startAll
-  start-on handle′ table′ s h fits e f g l =
-      unheld-on (s .reader) table′ handle′ h f g fits (ap (λ (b : Begun). b .used) e) ∙ ap (λ (b : Begun). b .state) e
+  start-on handle′ memory′ s h fits e f g l =
+      unheld-on (s .reader) memory′ handle′ h f g fits (ap (λ (b : Begun). b .used) e) ∙ ap (λ (b : Begun). b .state) e
 
-  pub restore-on : (image handle′ table′ : List ℕ) (r : Restored) (h : Head) → HeadFits h → Restores image table r table′ → h ≡ headPart (r .reader)
-      → handle′ ≡ handleBytes h noHeld → RestoresOn handle table image handle′ table′
-  unfolding restoreAll
-  restore-on image handle′ table′ r h fits e f g l =
-      unheld-on (r .reader) table′ handle′ h f g fits (ap (λ (b : Came). b .used) e) ∙ ap (λ (b : Came). b .state) e
+  pub restore-on : (image handle′ : List ℕ) (memory′ : Memories) (r : Restored) (h : Head) → HeadFits h → Restores image memory r memory′ → h ≡ headPart (r .reader)
+      → handle′ ≡ handleBytes h noHeld → RestoresOn handle memory image handle′ memory′
+  restore-on image handle′ memory′ r h fits e f g l =
+      unheld-on (r .reader) memory′ handle′ h f g fits (ap (λ (b : Came). b .used) e ∙ restored-unheld image memory) ∙ ap (λ (b : Came). b .state) e
 
-  pub start-unfit : (length handle ≡ handleSize → ⊥) → left 20 handle table ≡ startHost handle table
+  pub start-unfit : (length handle ≡ handleSize → ⊥) → left 20 handle memory ≡ startHost handle memory
   unfolding startHost
   start-unfit d = rw (ne-eqb (length handle) handleSize d)
 
-  pub start-goes : (handle′ table′ : List ℕ) (s : Started) (h : Head) {n : ℕ} → length handle ≡ handleSize → Starting table s table′ → h ≡ headPart (s .reader)
-      → handle′ ≡ handleBytes h noHeld → n ≡ startNumber (s .answer) → left n handle′ table′ ≡ startHost handle table
+  pub start-goes : (handle′ : List ℕ) (memory′ : Memories) (s : Started) (h : Head) {n : ℕ} → length handle ≡ handleSize → Starting memory s memory′ → h ≡ headPart (s .reader)
+      → handle′ ≡ handleBytes h noHeld → n ≡ startNumber (s .answer) → left n handle′ memory′ ≡ startHost handle memory
   unfolding startHost
-  start-goes handle′ table′ s h l e f g i =
-      rw (eq-eqb (length handle) handleSize l, i) (unheld-as (s .reader) table′ handle′ h (startNumber (s .answer)) f g ∙ ap startedAs e)
+  start-goes handle′ memory′ s h l e f g i =
+      rw (eq-eqb (length handle) handleSize l, i) (unheld-as (s .reader) memory′ handle′ h (startNumber (s .answer)) f g ∙ ap startedAs e)
 
-  pub restore-unfit : (image : List ℕ) → (length handle ≡ handleSize → ⊥) → left 20 handle table ≡ restoreHost handle table image
+  pub restore-unfit : (image : List ℕ) → (length handle ≡ handleSize → ⊥) → left 20 handle memory ≡ restoreHost handle memory image
   unfolding restoreHost
   restore-unfit image d = rw (ne-eqb (length handle) handleSize d)
 
-  pub restore-goes : (image handle′ table′ : List ℕ) (r : Restored) (h : Head) {n : ℕ} → length handle ≡ handleSize → Restores image table r table′ → h ≡ headPart (r .reader)
-      → handle′ ≡ handleBytes h noHeld → n ≡ restoreNumber (r .verdict) → left n handle′ table′ ≡ restoreHost handle table image
+  pub restore-goes : (image handle′ : List ℕ) (memory′ : Memories) (r : Restored) (h : Head) {n : ℕ} → length handle ≡ handleSize → Restores image memory r memory′ → h ≡ headPart (r .reader)
+      → handle′ ≡ handleBytes h noHeld → n ≡ restoreNumber (r .verdict) → left n handle′ memory′ ≡ restoreHost handle memory image
   unfolding restoreHost
-  restore-goes image handle′ table′ r h l e f g i =
-      rw (eq-eqb (length handle) handleSize l, i) (unheld-as (r .reader) table′ handle′ h (restoreNumber (r .verdict)) f g ∙ ap restoredAs e)
+  restore-goes image handle′ memory′ r h l e f g i =
+      rw (eq-eqb (length handle) handleSize l, i) (unheld-as (r .reader) memory′ handle′ h (restoreNumber (r .verdict)) f g ∙ ap restoredAs e)
 
 -- ---- saving
 
@@ -191,18 +197,11 @@ module _ (handle table : List ℕ) {w : Bool} (e : w ≡ hostWithin handle table
       unfolding withinLimits fits
       rows-fit = rw g (both-left (rowsFit (headOf handle .board .rows) table) _ (kept .1))
 
-      few : Fitting (h .board .rows) table
-      few = rows-fitting (h .board .rows) table rows-fit
+      within-few : Fitting (h .board .rows) table
+      within-few = rows-fitting (h .board .rows) table rows-fit
 
       pub within-rows : h .board .rows * rowSize ≤ length table
-      within-rows = omega (arith, few)
-
-      pub found-fits : (id : ℕ) (x : Found) → x ≡ rowFor (h .board .rows) table id → FoundFits x
-      found-fits id x m = subst FoundFits (sym m) (found-few id (rowFor (h .board .rows) table id) refl)
-        where
-          found-few : (id : ℕ) (y : Found) → rowFor (h .board .rows) table id ≡ y → FoundFits y
-          found-few id (At k) r = omega (arith, few, found (h .board .rows) table id k r)
-          found-few id Nothing r = tt
+      within-rows = omega (arith, within-few)
 
   -- a line
   module _ (k : ℕ) (out : List ℕ) where
@@ -220,23 +219,46 @@ module _ (handle table : List ℕ) {w : Bool} (e : w ≡ hostWithin handle table
         ∙ ap (λ (y : Ending). lineTo (lineOf k (h .line .next) (h .board .rows) table y) out) l
         ∙ ap (λ (y : Head). lineTo (lineOf k (y .line .next) (y .board .rows) table (endingOf (y .refusal) (y .ended))) out) g)
 
-  -- the row for an id
-  module _ (id : ℕ) where
-    pub find-unfit : not w ≡ true → 20 ≡ findHost handle table id
-    unfolding findHost
-    find-unfit f = rw (not-call w (hostWithin handle table) e f)
+-- ---- the row for an id
 
-    pub find-goes : not w ≡ false → (h : Head) → h ≡ headOf handle → {n : ℕ} (x : Found) → x ≡ rowFor (h .board .rows) table id → n ≡ foundNumber x
-        → n ≡ findHost handle table id
-    unfolding findHost
-    find-goes f h g x m o =
-        rw (not-not-call w (hostWithin handle table) e f)
-        (o ∙ ap foundNumber m ∙ ap (λ (y : Head). foundNumber (rowFor (y .board .rows) table id)) g)
+module _ (handle table index : List ℕ) where
+  pub find-unfit : {w : Bool} (id : ℕ) → w ≡ hostWithin handle table → not w ≡ true → 20 ≡ findHost handle (memories table index) id
+  unfolding findHost
+  find-unfit id e f = rw (may-unless-limits handle (memories table index) e f)
 
-pub found-at : {x : Found} {k : ℕ} → x ≡ At k → (k + 1) * 256 ≡ foundNumber x
-found-at e = rw e
+  pub find-no-index : {w : Bool} (id : ℕ) → w ≡ isIndex index → not w ≡ true → 20 ≡ findHost handle (memories table index) id
+  unfolding findHost
+  find-no-index id e f = rw (may-unless-index handle (memories table index) e f)
 
-pub place-fits : {x : Found} {k : ℕ} → x ≡ At k → FoundFits x → k < mostRows
+  module _ {w y : Bool} (e : w ≡ hostWithin handle table) (f : not w ≡ false) (i : y ≡ isIndex index) (j : not y ≡ false) (h : Head) (g : h ≡ headOf handle) where
+    few : Fitting (h .board .rows) table
+    few = within-few handle table e f h g
+
+    pub within-index : h .board .rows * placeSize ≤ length index
+    within-index =
+        let long : length index ≡ indexSize = eqb-true (length index) indexSize (not-not-call y (isIndex index) i j) in
+        omega (arith, few)
+
+    module _ (id : ℕ) (x : Sought) (m : x ≡ sought index table (h .board .rows) id) where
+      -- a row that is found is in use
+      pub found-fits : FoundFits x
+      found-fits = by x m
+        where
+          by : (z : Sought) → z ≡ sought index table (h .board .rows) id → FoundFits z
+          by (Here k) n = omega (arith, few, here-has index table (h .board .rows) id k (sym n) .below)
+          by (Absent place) n = tt
+          by Astray n = tt
+
+      pub find-goes : {n : ℕ} → n ≡ foundNumber x → n ≡ findHost handle (memories table index) id
+      unfolding findHost
+      find-goes o =
+          rw (may-by handle (memories table index) e f i j)
+          (o ∙ ap foundNumber m ∙ ap (λ (z : Head). foundNumber (sought index table (z .board .rows) id)) g)
+
+pub found-here : {x : Sought} {k : ℕ} → x ≡ Here k → (k + 1) * 256 ≡ foundNumber x
+found-here e = rw e
+
+pub place-fits : {x : Sought} {k : ℕ} → x ≡ Here k → FoundFits x → k < mostRows
 place-fits e f = rw e at f
 
 -- ---- the size of an image

@@ -15,9 +15,10 @@ use Rattle.handle.specs.Handle.{handleSize, isHandle, headOf, handleBytes}
 use Rattle.block.specs.Block.{blockSize}
 use Rattle.image.specs.Shape.{mostBlocks}
 use Rattle.image.specs.declared.Saved.{Saved}
-use Rattle.table.specs.Memory.{mostRows, rowFor}
-use Rattle.table.specs.declared.Found.{Found}
-use Rattle.table.specs.declared.Found.the-variants.{At, Nothing}
+use Rattle.table.specs.Memory.{mostRows, Memories, Found, At, Nothing, rowFor}
+use Rattle.table.specs.Index.{sought}
+use Rattle.table.specs.declared.index.Sought.{Sought}
+use Rattle.table.specs.declared.index.Sought.the-variants.{Here, Absent, Astray}
 use Rattle.listing.specs.Lines.{endingOf, lineOf}
 use Rattle.listing.specs.declared.Shown.{Shown}
 use Rattle.listing.specs.declared.Shown.the-variants as shown
@@ -27,7 +28,7 @@ use Rattle.reader.specs.Deliver.{Table}
 use Rattle.reader.specs.View.{stateOf, memoryIn}
 use Rattle.reader.specs.Calls.{Begun, startAll}
 use Rattle.reader.specs.Saving.{Written, writtenOf, Came, saveAll, restoreAll}
-use Rattle.reader.specs.Handles.{readerIn, hostWithin, headIn, Left, left}
+use Rattle.reader.specs.Handles.{readerIn, hostWithin, hostMayStep, headIn, Left, left}
 
 -- ---- STARTING AND RESTORING
 
@@ -42,29 +43,29 @@ unheld number st used = left number (handleBytes (headIn st used) noHeld) (memor
 abbrev pub startedAs : Begun → Left
 startedAs b = unheld (b .refusal) (b .state) (b .used)
 
--- 20 for handle memory of another length; else the handle is fresh, also where table memory has another
-unfoldable pub startHost : List ℕ → List ℕ → Left
-startHost handle table = cond (eqb (length handle) handleSize) (startedAs (startAll table)) (left 20 handle table)
+-- 20 for handle memory of another length; else the handle is fresh, also where table or index memory has another (W-207)
+unfoldable pub startHost : List ℕ → Memories → Left
+startHost handle memory = cond (eqb (length handle) handleSize) (startedAs (startAll memory)) (left 20 handle memory)
 
 abbrev pub restoredAs : Came → Left
 restoredAs c = unheld (c .refusal) (c .state) (c .used)
 
-unfoldable pub restoreHost : List ℕ → List ℕ → List ℕ → Left
-restoreHost handle table image = cond (eqb (length handle) handleSize) (restoredAs (restoreAll image table)) (left 20 handle table)
+unfoldable pub restoreHost : List ℕ → Memories → List ℕ → Left
+restoreHost handle memory image = cond (eqb (length handle) handleSize) (restoredAs (restoreAll image memory)) (left 20 handle memory)
 
 -- THE PROMISES OF STARTING AND RESTORING: what was lent, and then the answer and what was left
-abbrev pub HostStarts : List ℕ → List ℕ → ℕ → List ℕ → List ℕ → Type 0
-HostStarts handle table a handle′ table′ = left a handle′ table′ ≡ startHost handle table
+abbrev pub HostStarts : List ℕ → Memories → ℕ → List ℕ → Memories → Type 0
+HostStarts handle memory a handle′ memory′ = left a handle′ memory′ ≡ startHost handle memory
 
-abbrev pub HostRestores : List ℕ → List ℕ → List ℕ → ℕ → List ℕ → List ℕ → Type 0
-HostRestores handle table image a handle′ table′ = left a handle′ table′ ≡ restoreHost handle table image
+abbrev pub HostRestores : List ℕ → Memories → List ℕ → ℕ → List ℕ → Memories → Type 0
+HostRestores handle memory image a handle′ memory′ = left a handle′ memory′ ≡ restoreHost handle memory image
 
 -- the handle that they leave is the reader that they make
-abbrev pub StartsOn : List ℕ → List ℕ → List ℕ → List ℕ → Type 0
-StartsOn handle table handle′ table′ = length handle ≡ handleSize → stateOf (readerIn handle′) table′ ≡ startAll table .state
+abbrev pub StartsOn : List ℕ → Memories → List ℕ → Memories → Type 0
+StartsOn handle memory handle′ memory′ = length handle ≡ handleSize → stateOf (readerIn handle′) memory′ ≡ startAll memory .state
 
-abbrev pub RestoresOn : List ℕ → List ℕ → List ℕ → List ℕ → List ℕ → Type 0
-RestoresOn handle table image handle′ table′ = length handle ≡ handleSize → stateOf (readerIn handle′) table′ ≡ restoreAll image table .state
+abbrev pub RestoresOn : List ℕ → Memories → List ℕ → List ℕ → Memories → Type 0
+RestoresOn handle memory image handle′ memory′ = length handle ≡ handleSize → stateOf (readerIn handle′) memory′ ≡ restoreAll image memory .state
 
 -- ---- SAVING
 
@@ -111,22 +112,36 @@ lineHost handle table k out =
 
 -- ---- THE ROW FOR AN ID
 
--- 256 times its place, counted from 1; 0 where no row in use has the id
-abbrev pub foundNumber : Found → ℕ
-foundNumber (At k) = (k + 1) * 256
-foundNumber Nothing = 0
+-- 256 times its place, counted from 1; 0 where the search finds none, 20 where the index led it astray (W-207)
+abbrev pub foundNumber : Sought → ℕ
+foundNumber (Here k) = (k + 1) * 256
+foundNumber (Absent place) = 0
+foundNumber Astray = 20
 
--- 20 as for a line
-unfoldable pub findHost : List ℕ → List ℕ → ℕ → ℕ
-findHost handle table id = cond (hostWithin handle table) (foundNumber (rowFor (headOf handle .board .rows) table id)) 20
+-- 20 as for a line, and for index memory of another length (W-207)
+unfoldable pub findHost : List ℕ → Memories → ℕ → ℕ
+findHost handle memory id =
+    cond (hostMayStep handle memory)
+    (foundNumber (sought (memory .index) (memory .table) (headOf handle .board .rows) id))
+    20
 
 -- its place has room
-abbrev pub FoundFits : Found → Type 0
-FoundFits (At k) = k < mostRows
-FoundFits Nothing = Unit
+abbrev pub FoundFits : Sought → Type 0
+FoundFits (Here k) = k < mostRows
+FoundFits (Absent place) = Unit
+FoundFits Astray = Unit
+
+-- ---- the same with the walk, as it was until W-207
+
+abbrev pub walkedNumber : Found → ℕ
+walkedNumber (At k) = (k + 1) * 256
+walkedNumber Nothing = 0
+
+unfoldable pub walkedFind : List ℕ → List ℕ → ℕ → ℕ
+walkedFind handle table id = cond (hostWithin handle table) (walkedNumber (rowFor (headOf handle .board .rows) table id)) 20
 
 -- ---- THE VERSION
 
 -- that the header names too
 abbrev pub hostVersion : ℕ
-hostVersion = 3
+hostVersion = 4

@@ -15,7 +15,8 @@ ghost use mathlib.Core.Path.{_≡_};
 ghost use Prim.Native.Nat.{_≤_};
 ghost use mathlib.Core.List.{[]};
 ghost use lib.ListN.{length, take};
-ghost use Rattle.table.specs.Memory.{tableSize};
+ghost use Rattle.table.specs.Memory.{tableSize, memories};
+ghost use Rattle.table.specs.Index.{indexSize};
 ghost use Rattle.listing.specs.Lines.{lineSize, Short};
 ghost use Rattle.handle.specs.Handle.{handleSize, handleBytes};
 ghost use Rattle.record.specs.Places.{recordSize};
@@ -79,8 +80,8 @@ fn put_unheld(h: Head, handle: &mut [u8])
 // Makes a handle fresh, and fills the table and its index with zeros.
 #[no_mangle]
 pub extern "C" fn nelqubat_start(handle: &mut [u8], table: &mut [u8], index: &mut [u8]) -> u32
-    ensures { λ r. ⌜ HostStarts (now (handle .entry)) (now (table .entry)) r (now (handle .exit)) (now (table .exit)) ⌝ }
-    ensures { λ _. ⌜ StartsOn (now (handle .entry)) (now (table .entry)) (now (handle .exit)) (now (table .exit)) ⌝ }
+    ensures { λ r. ⌜ HostStarts (now (handle .entry)) (memories (now (table .entry)) (now (index .entry))) r (now (handle .exit)) (memories (now (table .exit)) (now (index .exit))) ⌝ }
+    ensures { λ _. ⌜ StartsOn (now (handle .entry)) (memories (now (table .entry)) (now (index .entry))) (now (handle .exit)) (memories (now (table .exit)) (now (index .exit))) ⌝ }
 {
     if handle.len() != HANDLE_SIZE {
         return 20;
@@ -104,8 +105,8 @@ pub extern "C" fn nelqubat_step(
     piece: &[u8],
     event: &mut [u8],
 ) -> u32
-    ensures { λ r. ⌜ HostSteps (now (handle .entry)) (now (table .entry)) (now (piece .entry)) (now (event .entry)) r (now (handle .exit)) (now (table .exit)) (now (event .exit)) ⌝ }
-    ensures { λ _. ⌜ GoesOn (now (handle .entry)) (now (table .entry)) (now (piece .entry)) (now (event .entry)) (now (handle .exit)) (now (table .exit)) ⌝ }
+    ensures { λ r. ⌜ HostSteps (now (handle .entry)) (memories (now (table .entry)) (now (index .entry))) (now (piece .entry)) (now (event .entry)) r (now (handle .exit)) (memories (now (table .exit)) (now (index .exit))) (now (event .exit)) ⌝ }
+    ensures { λ _. ⌜ GoesOn (now (handle .entry)) (memories (now (table .entry)) (now (index .entry))) (now (piece .entry)) (now (event .entry)) (now (handle .exit)) (memories (now (table .exit)) (now (index .exit))) ⌝ }
 {
     reader::step(handle, table, index, piece, event)
 }
@@ -120,8 +121,8 @@ pub extern "C" fn nelqubat_run(
     piece: &[u8],
     ceiling: u32,
 ) -> u64
-    ensures { λ r. ⌜ HostRuns (now (handle .entry)) (now (table .entry)) (now (piece .entry)) ceiling r (now (handle .exit)) (now (table .exit)) ⌝ }
-    ensures { λ _. ⌜ RunsOn (now (handle .entry)) (now (table .entry)) (now (piece .entry)) ceiling (now (handle .exit)) (now (table .exit)) ⌝ }
+    ensures { λ r. ⌜ HostRuns (now (handle .entry)) (memories (now (table .entry)) (now (index .entry))) (now (piece .entry)) ceiling r (now (handle .exit)) (memories (now (table .exit)) (now (index .exit))) ⌝ }
+    ensures { λ _. ⌜ RunsOn (now (handle .entry)) (memories (now (table .entry)) (now (index .entry))) (now (piece .entry)) ceiling (now (handle .exit)) (memories (now (table .exit)) (now (index .exit))) ⌝ }
 {
     reader::run(handle, table, index, piece, ceiling)
 }
@@ -165,8 +166,8 @@ pub extern "C" fn nelqubat_restore(
     index: &mut [u8],
     saved: &[u8],
 ) -> u32
-    ensures { λ r. ⌜ HostRestores (now (handle .entry)) (now (table .entry)) (now (saved .entry)) r (now (handle .exit)) (now (table .exit)) ⌝ }
-    ensures { λ _. ⌜ RestoresOn (now (handle .entry)) (now (table .entry)) (now (saved .entry)) (now (handle .exit)) (now (table .exit)) ⌝ }
+    ensures { λ r. ⌜ HostRestores (now (handle .entry)) (memories (now (table .entry)) (now (index .entry))) (now (saved .entry)) r (now (handle .exit)) (memories (now (table .exit)) (now (index .exit))) ⌝ }
+    ensures { λ _. ⌜ RestoresOn (now (handle .entry)) (memories (now (table .entry)) (now (index .entry))) (now (saved .entry)) (now (handle .exit)) (memories (now (table .exit)) (now (index .exit))) ⌝ }
 {
     if handle.len() != HANDLE_SIZE {
         return 20;

@@ -2,7 +2,7 @@
 -- Assumes nothing.
 use borrow.Author.Needs.{needs}
 use native.Mathlib.Omega.{arith}
-use Rattle.nelqubat.proofs.Ways.{found-at, place-fits}
+use Rattle.nelqubat.proofs.Ways.{found-here, place-fits}
 use Rattle.nelqubat.proofs.found_number.Statement.{statement}
 use Rattle.nelqubat.proofs.found_number.Tie as tie
 
@@ -25,9 +25,9 @@ mul-result c =
     omega (arith, place-fits (at-found .found .given .1) (start .pre))
 
 returns : tie.Need-returns
-returns c = search found-at
+returns c = search found-here
 
 pub found-number-spec : {M : Type 1} → statement M
 found-number-spec =
     tie.close
-    (tie.spec (λ c. search needs) cast-result add-result mul-result (λ c. search needs) returns (λ c. search needs))
+    (tie.spec (λ c. search needs) cast-result add-result mul-result (λ c. search needs) (λ c. search needs) returns (λ c. search needs) (λ c. search needs))

@@ -2,10 +2,14 @@
 -- Assumes nothing.
 use borrow.Author.Needs.{needs}
 use denote.Ref.{now}
+use Rattle.table.specs.Memory.{Memories, memories}
 use Rattle.handle.proofs.Rounds.{HeadFits}
 use Rattle.nelqubat.proofs.Ways.{start-none, start-unfit, start-goes, start-on, started-ready, started-refused}
 use Rattle.nelqubat.proofs.nelqubat_start.Statement.{statement}
 use Rattle.nelqubat.proofs.nelqubat_start.Tie as tie
+
+abbrev memory : tie.Start → Memories
+memory s = memories (now (s .args .table)) (now (s .args .index))
 
 -- the head of what comes back has room in its fields
 fits : (a : tie.After-head) → HeadFits (a .head .result)
@@ -22,32 +26,32 @@ fits a =
 
 returns : tie.Need-returns
 returns c =
-    let start = c .before .before .before in
-    (search start-unfit, start-none (now (start .args .handle)) (now (start .args .table)) (c .if1 .taken))
+    let start = c .before .before .before .before in
+    (search start-unfit, start-none (now (start .args .handle)) (memory start) (c .if1 .taken))
 
 returns-2 : tie.Need-returns-2
 returns-2 c =
     let at-put-unheld = c .before .before .before .before in
     let at-head = at-put-unheld .before .before in
-    let at-start = at-head .before .before .before .before in
-    let at-if1 = at-start .before .before in
-    let start = at-if1 .before .before .before in (
-      start-goes (now (start .args .handle)) (now (start .args .table)) _ _ (at-start .start .result) (at-head .head .result) (at-if1 .if1 .left) (at-start .start .ensures) (at-head .head .ensures) (at-put-unheld .put-unheld .ensures) (started-ready (c .enum-told .given .1)),
-      start-on (now (start .args .handle)) (now (start .args .table)) _ _ (at-start .start .result) (at-head .head .result) (fits at-head) (at-start .start .ensures) (at-head .head .ensures) (at-put-unheld .put-unheld .ensures),
+    let at-start = at-head .before .before .before .before .before .before in
+    let at-if1 = at-start .before .before .before in
+    let start = at-if1 .before .before .before .before in (
+      start-goes (now (start .args .handle)) (memory start) _ (memories _ _) (at-start .start .result) (at-head .head .result) (at-if1 .if1 .left) (at-start .start .ensures) (at-head .head .ensures) (at-put-unheld .put-unheld .ensures) (started-ready (c .enum-told .given .1)),
+      start-on (now (start .args .handle)) (memory start) _ (memories _ _) (at-start .start .result) (at-head .head .result) (fits at-head) (at-start .start .ensures) (at-head .head .ensures) (at-put-unheld .put-unheld .ensures),
     )
 
 returns-3 : tie.Need-returns-3
 returns-3 c =
     let at-put-unheld = c .before .before .before .before .before .before in
     let at-head = at-put-unheld .before .before in
-    let at-start = at-head .before .before .before .before in
-    let at-if1 = at-start .before .before in
-    let start = at-if1 .before .before .before in (
-      start-goes (now (start .args .handle)) (now (start .args .table)) _ _ (at-start .start .result) (at-head .head .result) (at-if1 .if1 .left) (at-start .start .ensures) (at-head .head .ensures) (at-put-unheld .put-unheld .ensures) (search started-refused),
-      start-on (now (start .args .handle)) (now (start .args .table)) _ _ (at-start .start .result) (at-head .head .result) (fits at-head) (at-start .start .ensures) (at-head .head .ensures) (at-put-unheld .put-unheld .ensures),
+    let at-start = at-head .before .before .before .before .before .before in
+    let at-if1 = at-start .before .before .before in
+    let start = at-if1 .before .before .before .before in (
+      start-goes (now (start .args .handle)) (memory start) _ (memories _ _) (at-start .start .result) (at-head .head .result) (at-if1 .if1 .left) (at-start .start .ensures) (at-head .head .ensures) (at-put-unheld .put-unheld .ensures) (search started-refused),
+      start-on (now (start .args .handle)) (memory start) _ (memories _ _) (at-start .start .result) (at-head .head .result) (fits at-head) (at-start .start .ensures) (at-head .head .ensures) (at-put-unheld .put-unheld .ensures),
     )
 
 pub nelqubat-start-spec : {M : Type 1} → statement M
 nelqubat-start-spec =
     tie.close
-    (tie.spec returns (λ c κs. search needs) (λ c κs. search needs) (λ c κs. search needs) (λ c. search needs) (λ c. search needs) (λ c κs. search needs) (λ c. search needs) (λ c. search needs) (λ c. search needs) returns-2 (λ c. search needs) (λ c. search needs) returns-3)
+    (tie.spec returns (λ c κs. search needs) (λ c κs. search needs) (λ c κs. search needs) (λ c. search needs) (λ c. search needs) (λ c κs. search needs) (λ c. search needs) (λ c. search needs) (λ c. search needs) (λ c. search needs) returns-2 (λ c. search needs) (λ c. search needs) (λ c. search needs) returns-3)
