@@ -13,18 +13,21 @@ use lib.Seq.{take-length, drop-length, drop-drop}
 use Rattle.field.specs.Bytes.{Bytes}
 use Rattle.field.proofs.Bools.{both-left, both-right}
 use Rattle.packet.specs.Stream.{State, live, ended, refused, reading, NothingLeft, Run, stop}
-use Rattle.packet.specs.Ceiling.{runOf}
+use Rattle.packet.specs.Ceiling.{runBy}
 use Rattle.packet.specs.Session.{Session, Event, soupBinTCP}
 use Rattle.packet.proofs.Cut.{reading-cut}
 use Rattle.packet.proofs.Step.{any-caller}
 use Rattle.packet.proofs.Ceiling.{run-within}
+use Rattle.table.specs.Memory.{Memories}
 use Rattle.reader.specs.Deliver.{Table, Said, deliver}
 use Rattle.reader.specs.View.{sessionOf, heldOf, stateOf}
-use Rattle.reader.specs.Limits.{withinLimits}
+use Rattle.reader.specs.Limits.{mayStep}
+use Rattle.reader.specs.Calls.{stepIn}
 use Rattle.reader.specs.Running.{mostPackets, SeenRun, seenRun, refusedRun, runAll, Running}
 use Rattle.reader.specs.declared.Refusal.the-variants.{Unfit, HighCeiling}
 use Rattle.reader.specs.declared.Reader.{Reader}
 use Rattle.reader.specs.declared.Ran.{Ran}
+use Rattle.reader.proofs.Onward.{takes-within}
 use Rattle.demands.specs.Sound.{Ours}
 use Rattle.packet.proofs.Bytes.{bytes-drop}
 use Rattle.demands.proofs.Kept.{unfinished-in}
@@ -49,7 +52,7 @@ alive r e =
     (eqb-true (r .refusal) 0 (both-left (eqb (r .refusal) 0) (not (r .ended)) e), not-true (r .ended) (both-right (eqb (r .refusal) 0) (not (r .ended)) e))
 
 -- one that does is live, and any other has nothing left to read
-nothing : (r : Reader) (t left : List ℕ) → (takesMore r ≡ true → left ≡ []) → NothingLeft (stateOf r t) left
+nothing : (r : Reader) (t : Memories) (left : List ℕ) → (takesMore r ≡ true → left ≡ []) → NothingLeft (stateOf r t) left
 nothing r t left = by (eqb (r .refusal) 0) (r .ended)
   where
     by : (none end : Bool) → (none && not end ≡ true → left ≡ [])
@@ -60,13 +63,13 @@ nothing r t left = by (eqb (r .refusal) 0) (r .ended)
 
 -- ---- a run takes no more than its piece, whatever reader it is given
 
-taken-within : (r : Reader) (t piece : List ℕ) (n : ℕ) (x : Ran) (t′ : List ℕ) → Running r t piece n x t′ → x .taken ≤ length piece
+taken-within : (r : Reader) (t : Memories) (piece : List ℕ) (n : ℕ) (x : Ran) (t′ : Memories) → Running r t piece n x t′ → x .taken ≤ length piece
 unfolding runAll
-taken-within r t piece n x t′ e = rw (ap (λ (q : SeenRun). q .run .taken) e) (by (withinLimits r t) (leb n mostPackets))
+taken-within r t piece n x t′ e = rw (ap (λ (q : SeenRun). q .run .taken) e) (by (mayStep r t) (leb n mostPackets))
   where
     by : (fit low : Bool)
-        → cond fit (cond low (seenRun (runOf (soupBinTCP deliver) n (stateOf r t) piece)) (refusedRun HighCeiling r t)) (refusedRun Unfit r t) .run .taken ≤ length piece
-    by true true = run-within (soupBinTCP deliver) n (stateOf r t) piece
+        → cond fit (cond low (seenRun (runBy stepIn n (stateOf r t) piece)) (refusedRun HighCeiling r t)) (refusedRun Unfit r t) .run .taken ≤ length piece
+    by true true = run-within stepIn takes-within n (stateOf r t) piece
     by true false = omega arith
     by false low = omega arith
 
@@ -75,12 +78,12 @@ rest-is : (piece : List ℕ) (at : ℕ) → take (length piece - at) (drop at pi
 rest-is piece at =
     ap (λ (n : ℕ). take n (drop at piece)) (sym (length-drop at piece)) ∙ take-length (drop at piece)
 
-pub from-within : (piece t : List ℕ) (a b : Reached) (t′ : List ℕ) → a .at ≤ length piece → RunsFrom a t piece b t′ → b .at ≤ length piece
+pub from-within : (piece : List ℕ) (t : Memories) (a b : Reached) (t′ : Memories) → a .at ≤ length piece → RunsFrom a t piece b t′ → b .at ≤ length piece
 from-within piece t a b t′ h from =
     let w = taken-within (a .reader) t (drop (a .at) piece) mostPackets (from .ran) t′ (from .promise) in
     omega (arith, w, length-drop (a .at) piece, from .at)
 
-module _ (piece t : List ℕ) (a : Reached) (x : Ran) (t′ : List ℕ)
+module _ (piece : List ℕ) (t : Memories) (a : Reached) (x : Ran) (t′ : Memories)
     (e : Running (a .reader) t (take (length piece - a .at) (drop (a .at) piece)) mostPackets x t′) where
   pub runs-from : RunsFrom a t piece (record { reader = x .reader; at = a .at + x .taken }) t′
   runs-from = record { ran = x; promise = rw (rest-is piece (a .at)) at e; reader = refl; at = refl }
@@ -90,8 +93,8 @@ module _ (piece t : List ℕ) (a : Reached) (x : Ran) (t′ : List ℕ)
 
 -- ---- the runs
 
-module _ (r₀ : Reader) (t₀ piece : List ℕ) where
-  pub record Along (a : Reached) (t : List ℕ) (turns : ℕ) : Type 0 where
+module _ (r₀ : Reader) (t₀ : Memories) (piece : List ℕ) where
+  pub record Along (a : Reached) (t : Memories) (turns : ℕ) : Type 0 where
     pub ours : Ours (a .reader) t
     pub state : reading (soupBinTCP deliver) (stateOf (a .reader) t) (drop (a .at) piece) .state ≡ reading (soupBinTCP deliver) (stateOf r₀ t₀) piece .state
     pub room : takesMore (a .reader) ≡ true → length piece ≤ a .at + turns
@@ -99,7 +102,7 @@ module _ (r₀ : Reader) (t₀ piece : List ℕ) where
   pub begins : Ours r₀ t₀ → Along (record { reader = r₀; at = 0 }) t₀ (length piece)
   begins o = record { ours = o; state = refl; room = λ e. omega arith }
 
-  module _ (a b : Reached) (t t′ : List ℕ) (turns : ℕ) (bytes : Bytes piece) (more : takesMore (a .reader) ≡ true) (some : a .at < length piece)
+  module _ (a b : Reached) (t t′ : Memories) (turns : ℕ) (bytes : Bytes piece) (more : takesMore (a .reader) ≡ true) (some : a .at < length piece)
       (from : RunsFrom a t piece b t′) (again : 1 ≤ turns) (along : Along a t turns) where
     abbrev left : List ℕ
     left = drop (a .at) piece
@@ -137,7 +140,7 @@ module _ (r₀ : Reader) (t₀ piece : List ℕ) where
         }
 
   -- where no byte is left, or the reader takes none
-  pub ends : (a : Reached) (t : List ℕ) (turns : ℕ) → a .at ≤ length piece → (takesMore (a .reader) ≡ true → length piece ≤ a .at) → Along a t turns
+  pub ends : (a : Reached) (t : Memories) (turns : ℕ) → a .at ≤ length piece → (takesMore (a .reader) ≡ true → length piece ≤ a .at) → Along a t turns
       → Fed r₀ t₀ piece (a .reader) t
   ends a t turns h f along =
       let none = nothing (a .reader) t (drop (a .at) piece) (λ e. let n : a .at ≡ length piece = omega (arith, f e) in rw n (drop-length piece)) in

@@ -14,6 +14,7 @@ use reader::Reader;
 use session::Heard;
 use table::MOST_ROWS;
 use table::TABLE_SIZE;
+use table::index::INDEX_SIZE;
 
 mod arguments;
 mod files;
@@ -168,8 +169,8 @@ fn ready(reader: Reader) -> Begun {
     }
 }
 
-fn restored(path: &[u8], saved: &[u8], table: &mut [u8]) -> Begun {
-    let back = Reader::restore(saved, table);
+fn restored(path: &[u8], saved: &[u8], table: &mut [u8], index: &mut [u8]) -> Begun {
+    let back = Reader::restore(saved, table, index);
     let reader = back.reader;
     let verdict = back.verdict;
     match verdict {
@@ -181,22 +182,33 @@ fn restored(path: &[u8], saved: &[u8], table: &mut [u8]) -> Begun {
     }
 }
 
-fn started(table: &mut [u8]) -> Begun {
-    let s = Reader::start(table);
+fn started(table: &mut [u8], index: &mut [u8]) -> Begun {
+    let s = Reader::start(table, index);
     ready(s.reader)
 }
 
-fn begin(from: usize, path: &mut [u8], table: &mut [u8]) -> Begun {
-    let fresh = started(table);
-    if from == 0 {
-        return fresh;
-    }
+// From a saved table; the fresh reader is handed back where the file could not be read.
+fn resume(
+    from: usize,
+    fresh: Reader,
+    path: &mut [u8],
+    table: &mut [u8],
+    index: &mut [u8],
+) -> Begun {
     let n = os::arg(from, path);
     let mut saved = [0u8; LONGER_IMAGE];
     match files::load(&path[..n], &mut saved) {
-        Loaded::Bytes(size) => restored(&path[..n], &saved[..size], table),
-        Loaded::Failed => none(fresh.reader, FAILED),
+        Loaded::Bytes(size) => restored(&path[..n], &saved[..size], table, index),
+        Loaded::Failed => none(fresh, FAILED),
     }
+}
+
+fn begin(from: usize, path: &mut [u8], table: &mut [u8], index: &mut [u8]) -> Begun {
+    let fresh = started(table, index);
+    if from == 0 {
+        return fresh;
+    }
+    resume(from, fresh.reader, path, table, index)
 }
 
 // The descriptor of the session, or -1.
@@ -248,14 +260,21 @@ fn conclude(wanted: Wanted, heard: Heard, table: &[u8], path: &mut [u8]) -> u8 {
     FAILED
 }
 
-fn proceed(wanted: Wanted, reader: Reader, fd: i32, path: &mut [u8], table: &mut [u8]) -> u8 {
-    let heard = session::read_all(fd, reader, table);
+fn proceed(
+    wanted: Wanted,
+    reader: Reader,
+    fd: i32,
+    path: &mut [u8],
+    table: &mut [u8],
+    index: &mut [u8],
+) -> u8 {
+    let heard = session::read_all(fd, reader, table, index);
     files::close(fd);
     conclude(wanted, heard, table, path)
 }
 
-fn run(wanted: Wanted, path: &mut [u8], table: &mut [u8]) -> u8 {
-    let begun = begin(wanted.from, path, table);
+fn run(wanted: Wanted, path: &mut [u8], table: &mut [u8], index: &mut [u8]) -> u8 {
+    let begun = begin(wanted.from, path, table, index);
     if !begun.is_ready {
         return begun.status;
     }
@@ -263,7 +282,7 @@ fn run(wanted: Wanted, path: &mut [u8], table: &mut [u8]) -> u8 {
     if fd < 0 {
         return FAILED;
     }
-    proceed(wanted, begun.reader, fd, path, table)
+    proceed(wanted, begun.reader, fd, path, table, index)
 }
 
 // What the arguments ask for.
@@ -278,7 +297,8 @@ fn answer(wanted: Wanted) -> u8 {
     }
     let mut path = io::buffer();
     let mut table = [0u8; TABLE_SIZE];
-    run(wanted, &mut path, &mut table)
+    let mut index = [0u8; INDEX_SIZE];
+    run(wanted, &mut path, &mut table, &mut index)
 }
 
 fn main() {

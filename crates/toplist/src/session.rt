@@ -6,6 +6,7 @@ use reader::Reader;
 ghost use mathlib.Core.Path.{_≡_};
 ghost use Prim.Native.Nat.{_≤_};
 ghost use lib.ListN.{length};
+ghost use Rattle.table.specs.Memory.{memories};
 ghost use Rattle.toplist.specs.Feeding.{takesMore, RunsFrom, Feeds, Stays};
 
 // A reader, and how far it is in the piece.
@@ -41,13 +42,13 @@ fn takes_more(reader: Reader) -> bool
 }
 
 // One run into the piece, with the highest ceiling.
-fn run_from(reached: Reached, piece: &[u8], table: &mut [u8]) -> Reached
+fn run_from(reached: Reached, piece: &[u8], table: &mut [u8], index: &mut [u8]) -> Reached
     requires { ⌜ reached .at ≤ length (now piece) ⌝ }
-    ensures { λ r. ⌜ RunsFrom reached (now (table .entry)) (now (piece .entry)) r (now (table .exit)) ⌝ }
+    ensures { λ r. ⌜ RunsFrom reached (memories (now (table .entry)) (now (index .entry))) (now (piece .entry)) r (memories (now (table .exit)) (now (index .exit))) ⌝ }
 {
     let given = reached.reader;
     let at = reached.at;
-    let ran = given.run(&piece[at..], table, MOST_PACKETS);
+    let ran = given.run(&piece[at..], table, index, MOST_PACKETS);
     let reader = ran.reader;
     Reached {
         reader,
@@ -56,8 +57,8 @@ fn run_from(reached: Reached, piece: &[u8], table: &mut [u8]) -> Reached
 }
 
 // All of a piece, or as much as is taken. Each run takes a byte at least, so the turns do not run out.
-fn feed(reader: Reader, piece: &[u8], table: &mut [u8]) -> Reader
-    ensures { λ r. ⌜ Feeds reader (now (table .entry)) (now (piece .entry)) r (now (table .exit)) ⌝ }
+fn feed(reader: Reader, piece: &[u8], table: &mut [u8], index: &mut [u8]) -> Reader
+    ensures { λ r. ⌜ Feeds reader (memories (now (table .entry)) (now (index .entry))) (now (piece .entry)) r (memories (now (table .exit)) (now (index .exit))) ⌝ }
 {
     let mut reached = Reached { reader, at: 0 };
     let mut turns = piece.len();
@@ -69,15 +70,15 @@ fn feed(reader: Reader, piece: &[u8], table: &mut [u8]) -> Reader
         if reached.at == piece.len() {
             return before;
         }
-        reached = run_from(reached, piece, table);
+        reached = run_from(reached, piece, table, index);
         turns -= 1;
     }
     reached.reader
 }
 
 // What comes next of the input.
-fn read_some(fd: i32, reader: Reader, space: &mut [u8], table: &mut [u8]) -> Brought
-    ensures { λ b. ⌜ Stays reader (now (table .entry)) (b .reader) (now (table .exit)) ⌝ }
+fn read_some(fd: i32, reader: Reader, space: &mut [u8], table: &mut [u8], index: &mut [u8]) -> Brought
+    ensures { λ b. ⌜ Stays reader (memories (now (table .entry)) (now (index .entry))) (b .reader) (memories (now (table .exit)) (now (index .exit))) ⌝ }
 {
     let got = libc::read(fd, space);
     if got < 0 {
@@ -89,7 +90,7 @@ fn read_some(fd: i32, reader: Reader, space: &mut [u8], table: &mut [u8]) -> Bro
     }
     let n = io::count(got, space);
     Brought {
-        reader: feed(reader, &space[..n], table),
+        reader: feed(reader, &space[..n], table, index),
         count: n,
         error: 0,
     }
@@ -118,10 +119,10 @@ fn after(heard: Heard, b: Brought) -> Heard
 }
 
 // One more read.
-fn hear(fd: i32, heard: Heard, space: &mut [u8], table: &mut [u8]) -> Heard
-    ensures { λ h. ⌜ Stays (heard .reader) (now (table .entry)) (h .reader) (now (table .exit)) ⌝ }
+fn hear(fd: i32, heard: Heard, space: &mut [u8], table: &mut [u8], index: &mut [u8]) -> Heard
+    ensures { λ h. ⌜ Stays (heard .reader) (memories (now (table .entry)) (now (index .entry))) (h .reader) (memories (now (table .exit)) (now (index .exit))) ⌝ }
 {
-    let b = read_some(fd, heard.reader, space, table);
+    let b = read_some(fd, heard.reader, space, table, index);
     after(heard, b)
 }
 
@@ -134,8 +135,8 @@ fn goes_on(heard: Heard) -> bool {
 }
 
 // Reads and runs to the end. A proved loop has to end, so it counts its turns down from a number that no input uses up.
-fn listen(fd: i32, reader: Reader, space: &mut [u8], table: &mut [u8]) -> Heard
-    ensures { λ h. ⌜ Stays reader (now (table .entry)) (h .reader) (now (table .exit)) ⌝ }
+fn listen(fd: i32, reader: Reader, space: &mut [u8], table: &mut [u8], index: &mut [u8]) -> Heard
+    ensures { λ h. ⌜ Stays reader (memories (now (table .entry)) (now (index .entry))) (h .reader) (memories (now (table .exit)) (now (index .exit))) ⌝ }
 {
     let mut heard = Heard {
         reader,
@@ -149,18 +150,18 @@ fn listen(fd: i32, reader: Reader, space: &mut [u8], table: &mut [u8]) -> Heard
         if !goes_on(heard) {
             return heard;
         }
-        heard = hear(fd, heard, space, table);
+        heard = hear(fd, heard, space, table, index);
         turns -= 1;
     }
     heard
 }
 
 // All of the input.
-pub fn read_all(fd: i32, reader: Reader, table: &mut [u8]) -> Heard
-    ensures { λ h. ⌜ Stays reader (now (table .entry)) (h .reader) (now (table .exit)) ⌝ }
+pub fn read_all(fd: i32, reader: Reader, table: &mut [u8], index: &mut [u8]) -> Heard
+    ensures { λ h. ⌜ Stays reader (memories (now (table .entry)) (now (index .entry))) (h .reader) (memories (now (table .exit)) (now (index .exit))) ⌝ }
 {
     let mut buffer = io::large_buffer();
-    let heard = listen(fd, reader, &mut buffer, table);
+    let heard = listen(fd, reader, &mut buffer, table, index);
     progress::clear(heard.shown);
     heard
 }
