@@ -5,7 +5,7 @@ use mathlib.Core.Bool.{Bool, true, false, cond}
 use mathlib.Core.List.{List, _++_}
 use Prim.Native.Nat.{ℕ, suc, _-_, _≤_}
 use native.Mathlib.Omega.{arith}
-use borrow.Author.Tests.{eqb-true, eq-eqb}
+use borrow.Author.Tests.{eqb-true}
 use lib.Dec.{eqb}
 use lib.ListN.{length, drop}
 use Rattle.message.specs.Message as messages
@@ -32,7 +32,6 @@ use Rattle.packet.proofs.Rules.{never}
 use Rattle.packet.proofs.Ceiling.{Halts, each-step, run-event, run-most}
 use Rattle.table.specs.Memory.{Memories}
 use Rattle.table.specs.Index.{lentFit}
-use Rattle.table.specs.Board as tables
 use Rattle.table.specs.Board.{fits, look, effectBy, effect, applyOf}
 use Rattle.table.specs.declared.Board.{Board}
 use Rattle.table.specs.declared.index.Sought.{Sought}
@@ -309,7 +308,7 @@ run-keeps-before =
     (record { none = λ st piece z d. absurd (d z); event = event-keeps; stops = stop-keeps })
 
 -- 20 does not stand in a handle that may step
-not-standing : (r : Reader) (t : Memories) → mayStep r t ≡ true → whyAtCeiling (stateOf r t) ≡ ceiling.Refused 20 → ⊥
+pub not-standing : (r : Reader) (t : Memories) → mayStep r t ≡ true → whyAtCeiling (stateOf r t) ≡ ceiling.Refused 20 → ⊥
 unfolding standing
 not-standing r t e z = by (stateOf r t) (ap standing (refusal-of r t) ∙ may-within r t e .stands) z
   where
@@ -329,9 +328,8 @@ run-astray r t piece n x t′ e most h a y t″ g =
     let many : x .finished ≡ q .finished = ap (λ (v : SeenRun). v .run .finished) one in
     let few : x .finished ≤ mostPackets = omega (arith, many, most, run-most stepIn n (stateOf r t) piece) in
     let reason : q .why ≡ ceiling.Refused 20 = sym (ap (λ (v : SeenRun). v .run .why) one) ∙ ap whyOf a in
-    let stood : whyAtCeiling (stateOf r t) ≡ ceiling.Refused 20 → ⊥ = λ z. not-standing r t e z in
     same-runs y _ t″ t′
     (runs-as r t piece (x .finished) y t″ e few g
     ∙ ap (λ (k : ℕ). seenRun (runBy stepIn k (stateOf r t) piece)) many
-    ∙ ap seenRun (run-keeps-before n (stateOf r t) piece reason stood)
+    ∙ ap seenRun (run-keeps-before n (stateOf r t) piece reason (not-standing r t e))
     ∙ ap (λ (v : SeenRun). record { run = asFar (v .run); used = v .used }) (sym one))

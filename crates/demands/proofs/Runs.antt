@@ -42,7 +42,7 @@ pub run-kept : (n : ℕ) (st : State (Session Table)) (piece : List ℕ) → Byt
 run-kept = run-keeps (stepOf (soupBinTCP deliver)) Kept Bytes bytes-drop step-kept
 
 -- and is never led astray
-run-unheeded : (n : ℕ) (st : State (Session Table)) (piece : List ℕ) → Bytes piece → Kept st → runBy stepIn n st piece ≡ runOf (soupBinTCP deliver) n st piece
+pub run-unheeded : (n : ℕ) (st : State (Session Table)) (piece : List ℕ) → Bytes piece → Kept st → runBy stepIn n st piece ≡ runOf (soupBinTCP deliver) n st piece
 run-unheeded n st piece b k =
     sym (run-same (stepOf (soupBinTCP deliver)) stepIn Kept Bytes bytes-drop step-kept (λ st₁ p b₁ k₁. sym (unheeded st₁ p b₁ k₁)) n st piece b k)
 

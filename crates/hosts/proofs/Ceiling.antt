@@ -17,6 +17,7 @@ use Rattle.packet.specs.Session.{Session, Event, soupBinTCP}
 use Rattle.packet.proofs.Rules.{never}
 use Rattle.packet.proofs.Ceiling as ceilings
 use Rattle.packet.proofs.Ceiling.{run-why}
+use Rattle.table.specs.Memory.{Memories}
 use Rattle.handle.specs.Handle.{headOf, placesIn}
 use Rattle.reader.specs.Refusals.{refusalNumber, named}
 use Rattle.reader.specs.Deliver.{Table, Said, deliver}
@@ -26,8 +27,8 @@ use Rattle.reader.specs.Running.{mostPackets, SeenRun, seenRun, runAll, whyNumb
 use Rattle.reader.proofs.Back.{StandsSome, Own}
 use Rattle.reader.proofs.RunsBack.{run-fits, handle-ran, state-ran, used-ran, answer-ran}
 use Rattle.demands.proofs.View.{endedIn, refusalIn, ended-of, refusal-of}
-use Rattle.demands.proofs.Kept.{Kept, ours-kept, kept-ours, ours-within, unfinished-in}
-use Rattle.demands.proofs.Runs.{run-kept, WhyStands, run-stands, all-runs, runs-finished, runs-state, runs-called}
+use Rattle.demands.proofs.Kept.{Kept, ours-kept, kept-ours, ours-may, unfinished-in}
+use Rattle.demands.proofs.Runs.{run-kept, run-unheeded, WhyStands, run-stands, all-runs, runs-finished, runs-state, runs-called}
 use Rattle.hosts.specs.Events.{eventsOver}
 use Rattle.hosts.specs.Runs.{HostDone}
 use Rattle.hosts.proofs.Laid.{stands-low, HostOurs, host-own}
@@ -57,40 +58,40 @@ state-refused st n z (inr e) = cc
 -- ---- ONE RUN
 
 -- what a run did, as the host sees it
-pub record Ran (a : ℕ) (handle′ table′ : List ℕ) (x : ceiling.Ran (Session Table)) : Type 0 where
-  pub ours : HostOurs handle′ table′
-  pub state : stateOf (readerIn handle′) table′ ≡ x .state
+pub record Ran (a : ℕ) (handle′ : List ℕ) (memory′ : Memories) (x : ceiling.Ran (Session Table)) : Type 0 where
+  pub ours : HostOurs handle′ memory′
+  pub state : stateOf (readerIn handle′) memory′ ≡ x .state
   pub taken : runTakenIn a ≡ x .taken
   pub finished : finishedIn a ≡ x .finished
   pub why : whyIn a ≡ x .why
 
-module _ (handle table piece : List ℕ) (n : ℕ) (o : HostOurs handle table) (b : Bytes piece) (a : ℕ) (handle′ table′ : List ℕ)
-    (s : HostRuns handle table piece n a handle′ table′) where
+module _ (handle : List ℕ) (memory : Memories) (piece : List ℕ) (n : ℕ) (o : HostOurs handle memory) (b : Bytes piece) (a : ℕ) (handle′ : List ℕ)
+    (memory′ : Memories) (s : HostRuns handle memory piece n a handle′ memory′) where
   abbrev st : State (Session Table)
-  st = stateOf (readerIn handle) table
+  st = stateOf (readerIn handle) memory
 
   abbrev x : SeenRun
-  x = runAll (readerIn handle) table piece n
+  x = runAll (readerIn handle) memory piece n
 
   own : Own handle
-  own = host-own handle table o
+  own = host-own handle memory o
 
-  ran : left a handle′ table′ ≡ ranTo x (placesIn handle)
+  ran : left a handle′ memory′ ≡ ranTo x (placesIn handle)
   unfolding runHost
   ran = rw (o .handle-is) at s
 
   -- THE HANDLE GOES ON AS THE READER, and the answer says what the run did
-  pub run-went : Ran a handle′ table′ (runAll (readerIn handle) table piece n .run)
+  pub run-went : Ran a handle′ memory′ (runAll (readerIn handle) memory piece n .run)
   run-went =
-      let u = all-runs (readerIn handle) table piece n (o .ours) b in
-      let k = run-kept (u .upTo) st piece b (ours-kept (readerIn handle) table (o .ours)) in
-      let e = state-ran handle table piece handle′ table′ n a own b s in
-      let used = used-ran handle table piece handle′ table′ n a own b s in
-      let y = answer-ran handle table piece handle′ table′ n a own b s in
+      let u = all-runs (readerIn handle) memory piece n (o .ours) b in
+      let k = run-kept (u .upTo) st piece b (ours-kept (readerIn handle) memory (o .ours)) in
+      let e = state-ran handle memory piece handle′ memory′ n a own b s in
+      let used = used-ran handle memory piece handle′ memory′ n a own b s in
+      let y = answer-ran handle memory piece handle′ memory′ n a own b s in
       record {
         ours = record {
-          handle-is = handle-ran handle table piece handle′ table′ n a own b s;
-          ours = kept-ours (readerIn handle′) table′ (subst Kept (sym (e ∙ u .state)) k) (omega (arith, used, u .used));
+          handle-is = handle-ran handle memory piece handle′ memory′ n a own b s;
+          ours = kept-ours (readerIn handle′) memory′ (subst Kept (sym (e ∙ u .state)) k) (omega (arith, used, u .used));
         };
         state = e;
         taken = y .0;
@@ -98,43 +99,46 @@ module _ (handle table piece : List ℕ) (n : ℕ) (o : HostOurs handle table) (
         why = y .1 .1;
       }
 
-  -- THEOREM: the number of packets finished, by the answer, is that of the accepted packets, the events, in the reading of the bytes taken; and the handle
-  -- and the table that are left are that reading's. With any ceiling.
-  pub run-counts : (finishedIn a ≡ length (eventsOver handle table (take (runTakenIn a) piece)))
-      × (stateOf (readerIn handle′) table′ ≡ reading (soupBinTCP deliver) (stateOf (readerIn handle) table) (take (runTakenIn a) piece) .state)
+  -- THEOREM: the number of packets finished, by the answer, is that of the accepted packets, the events, in the reading of the bytes taken; and the handle,
+  -- the table and the index that are left are that reading's. With any ceiling.
+  pub run-counts : (finishedIn a ≡ length (eventsOver handle memory (take (runTakenIn a) piece)))
+      × (stateOf (readerIn handle′) memory′ ≡ reading (soupBinTCP deliver) (stateOf (readerIn handle) memory) (take (runTakenIn a) piece) .state)
   run-counts =
-      let u = all-runs (readerIn handle) table piece n (o .ours) b in
-      let fine = unfinished-in (readerIn handle) table (o .ours) in (
-        run-went .finished ∙ runs-finished st piece x u fine ∙ ap (λ (k : ℕ). length (eventsOver handle table (take k piece))) (sym (run-went .taken)),
+      let u = all-runs (readerIn handle) memory piece n (o .ours) b in
+      let fine = unfinished-in (readerIn handle) memory (o .ours) in (
+        run-went .finished ∙ runs-finished st piece x u fine ∙ ap (λ (k : ℕ). length (eventsOver handle memory (take k piece))) (sym (run-went .taken)),
         run-went .state ∙ runs-state st piece x u fine
             ∙ ap (λ (k : ℕ). reading (soupBinTCP deliver) st (take k piece) .state) (sym (run-went .taken)),
       )
 
   -- a run is calls of the definitions
   pub ran-called : (more : List ℕ)
-      → Called (soupBinTCP deliver) (stateOf (readerIn handle) table) (piece ++ more) (eventsOver handle table (take (runTakenIn a) piece))
-      (stateOf (readerIn handle′) table′) (drop (runTakenIn a) piece ++ more)
+      → Called (soupBinTCP deliver) (stateOf (readerIn handle) memory) (piece ++ more) (eventsOver handle memory (take (runTakenIn a) piece))
+      (stateOf (readerIn handle′) memory′) (drop (runTakenIn a) piece ++ more)
   ran-called more =
-      let es : List (Event Said) = eventsOver handle table (take (runTakenIn a) piece) in
+      let es : List (Event Said) = eventsOver handle memory (take (runTakenIn a) piece) in
       subst (λ (q : State (Session Table)). Called (soupBinTCP deliver) st (piece ++ more) es q (drop (runTakenIn a) piece ++ more)) (sym (run-went .state))
-      (subst (λ (k : ℕ). Called (soupBinTCP deliver) st (piece ++ more) (eventsOver handle table (take k piece)) (x .run .state) (drop k piece ++ more))
+      (subst (λ (k : ℕ). Called (soupBinTCP deliver) st (piece ++ more) (eventsOver handle memory (take k piece)) (x .run .state) (drop k piece ++ more))
       (sym (run-went .taken))
-      (runs-called st piece x (all-runs (readerIn handle) table piece n (o .ours) b) (unfinished-in (readerIn handle) table (o .ours)) more))
+      (runs-called st piece x (all-runs (readerIn handle) memory piece n (o .ours) b) (unfinished-in (readerIn handle) memory (o .ours)) more))
 
   -- with an allowed ceiling
   module _ (most : n ≤ mostPackets) where
     abbrev went : ceiling.Ran (Session Table)
     went = runOf (soupBinTCP deliver) n st piece
 
-    pub run-is : runAll (readerIn handle) table piece n ≡ seenRun (runOf (soupBinTCP deliver) n (stateOf (readerIn handle) table) piece)
+    pub run-is : runAll (readerIn handle) memory piece n ≡ seenRun (runOf (soupBinTCP deliver) n (stateOf (readerIn handle) memory) piece)
     unfolding runAll
-    run-is = rw (ours-within (readerIn handle) table (o .ours), le-leb n mostPackets most)
+    run-is =
+        let k = ours-kept (readerIn handle) memory (o .ours) in
+        (rw (ours-may (readerIn handle) memory (o .ours), le-leb n mostPackets most))
+        ∙ ap seenRun (run-unheeded n st piece b k)
 
     -- THEOREM: IT GETS ON. By its answer, a run of a handle that has neither ended nor refused, with a ceiling of 1 to 1,000, takes a byte at least of a
     -- piece that is not empty.
     pub run-gets-on : (headOf handle .refusal ≡ 0) × (headOf handle .ended ≡ false) → 1 ≤ n → 1 ≤ length piece → 1 ≤ runTakenIn a
     run-gets-on alive one h =
-        let session : Session Table = sessionOf (headOf handle .line) (headOf handle .board) table in
+        let session : Session Table = sessionOf (headOf handle .line) (headOf handle .board) memory in
         let held : List ℕ = heldOf (readerIn handle) in
         let e : st ≡ live session held = rw (alive .0, alive .1) in
         let t : runTakenIn a ≡ runOf (soupBinTCP deliver) n (live session held) piece .taken
@@ -147,7 +151,7 @@ module _ (handle table piece : List ℕ) (n : ℕ) (o : HostOurs handle table) (
         let number : a ≡ ranNumber went = ap (λ (q : Left). q .number) ran ∙ ap (λ (q : SeenRun). ranNumber (q .run)) run-is in
         let low : a % 256 ≤ 16
         = subst (λ (k : ℕ). k % 256 ≤ 16) (sym number)
-        (low-byte (went .why) (went .finished) (went .taken) (run-stands n st piece b (ours-kept (readerIn handle) table (o .ours)))) in
+        (low-byte (went .why) (went .finished) (went .taken) (run-stands n st piece b (ours-kept (readerIn handle) memory (o .ours)))) in
         (λ e. omega (arith, low, e), λ e. omega (arith, low, e))
 
     -- THEOREM: after an answer of kind 7 or 8 no call is left to make
@@ -155,7 +159,7 @@ module _ (handle table piece : List ℕ) (n : ℕ) (o : HostOurs handle table) (
     unfolding whyFor
     run-says-done k rest = by k
       where
-        w : Ran a handle′ table′ (x .run)
+        w : Ran a handle′ memory′ (x .run)
         w = run-went
 
         said : (v : ceiling.Why) → whyIn a ≡ v → (whyAtCeiling (x .run .state) ≡ v) ⊎ (v ≡ ceiling.More)
@@ -166,8 +170,8 @@ module _ (handle table piece : List ℕ) (n : ℕ) (o : HostOurs handle table) (
 
         by : (kindIn a ≡ 7) ⊎ (kindIn a ≡ 8) → HostDone handle′ rest
         by (inl e) =
-            inr (inl (sym (ended-of (readerIn handle′) table′) ∙ ap endedIn (w .state) ∙ state-ended (x .run .state) (said ceiling.Ended (rw e))))
+            inr (inl (sym (ended-of (readerIn handle′) memory′) ∙ ap endedIn (w .state) ∙ state-ended (x .run .state) (said ceiling.Ended (rw e))))
         by (inr e) =
             let v : ℕ = refusalNumber (named (a % 256)) in
-            let z : eqb (refusalIn (x .run .state)) 0 ≡ false = state-refused (x .run .state) v (run-fits handle table piece n own b .some) (said (ceiling.Refused v) (rw e)) in
-            inr (inr (λ y. never (sym z ∙ ap (λ (m : ℕ). eqb m 0) (sym (ap refusalIn (w .state)) ∙ refusal-of (readerIn handle′) table′ ∙ y))))
+            let z : eqb (refusalIn (x .run .state)) 0 ≡ false = state-refused (x .run .state) v (run-fits handle memory piece n own b .some) (said (ceiling.Refused v) (rw e)) in
+            inr (inr (λ y. never (sym z ∙ ap (λ (m : ℕ). eqb m 0) (sym (ap refusalIn (w .state)) ∙ refusal-of (readerIn handle′) memory′ ∙ y))))

@@ -18,6 +18,7 @@ use Rattle.message.proofs.Typed.{listed-below}
 use Rattle.packet.specs.Frame.{heldSize}
 use Rattle.packet.specs.Stream.{live}
 use Rattle.packet.specs.Session.{Session}
+use Rattle.table.specs.Memory.{Memories}
 use Rattle.table.specs.Rules.{boardKeeps}
 use Rattle.table.specs.declared.Board.{Board}
 use Rattle.handle.specs.Handle.{headSize, isHandle, handleBytes, placesIn}
@@ -65,13 +66,20 @@ head-fits s h e n used low few =
       event = listed-below (0 ∷ eventCodes) (b .event) refl (both-left events _ (h .about .board));
     }
 
--- ---- a handle, and a table, as our own calls leave them
+-- ---- a handle, a table and its index, as our own calls leave them
 
-pub record HostOurs (handle table : List ℕ) : Type 0 where
+pub record HostOurs (handle : List ℕ) (memory : Memories) : Type 0 where
   pub handle-is : isHandle handle ≡ true
-  pub ours : Ours (readerIn handle) table
+  pub ours : Ours (readerIn handle) memory
 
-module _ (handle table : List ℕ) (o : HostOurs handle table) where
+-- what a handle says that it holds, it holds
+pub used-held : (handle : List ℕ) (memory : Memories) → isHandle handle ≡ true → readerIn handle .used ≤ heldSize
+    → readerIn handle .used ≡ length (heldIn (stateOf (readerIn handle) memory))
+used-held handle memory is few =
+    let l : length (placesIn handle) ≡ heldSize = part-length handle headSize heldSize (omega (arith, handle-length handle is)) in
+    sym (length-take-le (readerIn handle .used) (placesIn handle) (omega (arith, l, few))) ∙ ap length (sym (held-in (readerIn handle) memory))
+
+module _ (handle : List ℕ) (memory : Memories) (o : HostOurs handle memory) where
   pub host-own : Own handle
   host-own =
       let r = readerIn handle in
@@ -81,10 +89,8 @@ module _ (handle table : List ℕ) (o : HostOurs handle table) where
         bytes = o .ours .bytes;
       }
 
-  pub own-used : readerIn handle .used ≡ length (heldIn (stateOf (readerIn handle) table))
-  own-used =
-      let l : length (placesIn handle) ≡ heldSize = part-length handle headSize heldSize (omega (arith, handle-length handle (o .handle-is))) in
-      sym (length-take-le (readerIn handle .used) (placesIn handle) (omega (arith, l, o .ours .used))) ∙ ap length (sym (held-in (readerIn handle) table))
+  pub own-used : readerIn handle .used ≡ length (heldIn (stateOf (readerIn handle) memory))
+  own-used = used-held handle memory (o .handle-is) (o .ours .used)
 
 -- ---- one that holds nothing
 

@@ -1,6 +1,7 @@
 pub mod Laid
 pub mod Ceiling
-pub mod Refused
 pub mod Runs
+pub mod Refused
+pub mod Astray
 pub mod Resume
 pub mod Wrong

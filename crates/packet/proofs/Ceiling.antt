@@ -17,7 +17,7 @@ use Rattle.packet.specs.Ceiling as ceiling
 use Rattle.packet.specs.Ceiling.{Why, Ran, whyAtCeiling, halted, _onward_, further, ranBy, runBy, runOf}
 use Rattle.packet.proofs.Rules.{never}
 use Rattle.packet.proofs.Cut.{reading-none, reading-cut}
-use Rattle.packet.proofs.Step.{step-taken, step-within, step-unfinished, gets-on}
+use Rattle.packet.proofs.Step.{step-taken, step-unfinished, gets-on}
 use Rattle.packet.proofs.Seen.{step-short}
 
 -- no other reason is the ceiling

@@ -2,7 +2,7 @@
 -- Assumes nothing.
 use mathlib.Core.Path.{_≡_, refl, sym, ap, _∙_}
 use mathlib.Core.Bool.{Bool, true, false, cond}
-use mathlib.Core.List.{List, []}
+use mathlib.Core.List.{List}
 use Prim.Native.Nat.{ℕ, _+_, _*_, _%_, _≤_}
 use native.Mathlib.Decide.{ℕ-discrete}
 use native.Mathlib.Omega.{arith}
@@ -19,7 +19,7 @@ use Rattle.packet.specs.Session.{Session, Event, login, rejected, message, hear
 use Rattle.packet.proofs.Rules.{never}
 use Rattle.packet.proofs.Refused.{session-leaves, step-refused}
 use Rattle.table.specs.Memory.{Memories}
-use Rattle.handle.specs.Handle.{headSize, headOf, handleBytes, placesIn, usedField, refusalField, withField}
+use Rattle.handle.specs.Handle.{headSize, headOf, handleBytes, placesIn}
 use Rattle.handle.specs.declared.Head.{Head}
 use Rattle.handle.proofs.Rounds.{handle-length, head-fits}
 use Rattle.handle.proofs.Single.{used-put, refusal-put}

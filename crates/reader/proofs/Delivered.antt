@@ -28,8 +28,8 @@ use Rattle.message.proofs.Tested.{test-empty, test-some}
 use Rattle.packet.specs.Frame.{heldSize}
 use Rattle.packet.specs.Numbering.{numberAfter}
 use Rattle.packet.specs.Session.{Delivered, done, denied, delivered}
-use Rattle.table.specs.Memory.{Memories, memories}
-use Rattle.table.specs.Index.{lentFit, LentFitting}
+use Rattle.table.specs.Memory.{Memories}
+use Rattle.table.specs.Index.{LentFitting}
 use Rattle.table.specs.Board as tables
 use Rattle.table.specs.Board.{Indexed, beside, withEvent, withLive, effect, applyOf}
 use Rattle.table.specs.Wire.{placed}

@@ -13,10 +13,10 @@ use Rattle.field.specs.Bytes.{Bytes, overlay}
 use Rattle.field.proofs.Numbers.{Lent, lent-bytes}
 use Rattle.packet.specs.Frame.{heldSize}
 use Rattle.packet.specs.Stream as stream
-use Rattle.packet.specs.Stream.{State, live, ended, refused, stepOf}
+use Rattle.packet.specs.Stream.{State, live, ended, refused}
 use Rattle.packet.specs.Ceiling as ceiling
 use Rattle.packet.specs.Ceiling.{whyAtCeiling, halted, further, runBy}
-use Rattle.packet.specs.Session.{Session, Event, soupBinTCP}
+use Rattle.packet.specs.Session.{Session, Event}
 use Rattle.packet.proofs.Rules.{not-call, not-not-call, never, both}
 use Rattle.packet.proofs.Bytes.{bytes-drop}
 use Rattle.packet.proofs.Ceiling.{Halts, run-event, run-stops}
@@ -24,7 +24,7 @@ use Rattle.handle.specs.Handle.{isHandle, headOf, handleBytes, placesIn}
 use Rattle.handle.specs.declared.Head.{Head}
 use Rattle.handle.proofs.Rounds.{handle-length, head-fits}
 use Rattle.table.specs.Memory.{Memories}
-use Rattle.reader.specs.Deliver.{Table, Said, deliver}
+use Rattle.reader.specs.Deliver.{Table, Said}
 use Rattle.reader.specs.View.{stateOf, memoryIn, heldIn}
 use Rattle.reader.specs.Calls.{stepIn}
 use Rattle.reader.specs.Handles.{readerIn, hostMayStep, headIn, left, toldNumber, takenIn, turnedAs, movedBy}

@@ -2,7 +2,7 @@
 -- Assumes nothing.
 use mathlib.Core.Path.{_≡_, refl, sym, ap, _∙_, subst}
 use mathlib.Core.Logic.{_⊎_, inl, inr}
-use mathlib.Core.Bool.{Bool, true, false, not}
+use mathlib.Core.Bool.{true, false}
 use mathlib.Core.List.{List, [], _++_}
 use Prim.Native.Nat.{ℕ, _+_, _-_, _*_, _/_, _%_, _≤_, _<_}
 use native.Mathlib.Nat.{zero-add}
@@ -19,7 +19,7 @@ use Rattle.packet.specs.Stream.{State, live, ended, refused, accept, finish, re
 use Rattle.packet.specs.Ceiling as ceiling
 use Rattle.packet.specs.Ceiling.{whyAtCeiling, runBy}
 use Rattle.packet.specs.Session.{Session, Event, soupBinTCP}
-use Rattle.packet.proofs.Rules.{both, and-both, not-call, not-not-call}
+use Rattle.packet.proofs.Rules.{both}
 use Rattle.packet.proofs.Bytes.{bytes-none, bytes-append, bytes-drop}
 use Rattle.packet.proofs.Frame.{short-fits}
 use Rattle.packet.proofs.Ceiling.{Halts, step-says, run-most, run-says, run-keeps}

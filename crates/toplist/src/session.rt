@@ -77,7 +77,13 @@ fn feed(reader: Reader, piece: &[u8], table: &mut [u8], index: &mut [u8]) -> Rea
 }
 
 // What comes next of the input.
-fn read_some(fd: i32, reader: Reader, space: &mut [u8], table: &mut [u8], index: &mut [u8]) -> Brought
+fn read_some(
+    fd: i32,
+    reader: Reader,
+    space: &mut [u8],
+    table: &mut [u8],
+    index: &mut [u8],
+) -> Brought
     ensures { λ b. ⌜ Stays reader (memories (now (table .entry)) (now (index .entry))) (b .reader) (memories (now (table .exit)) (now (index .exit))) ⌝ }
 {
     let got = libc::read(fd, space);
