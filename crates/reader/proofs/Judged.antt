@@ -1,11 +1,12 @@
 -- The ways through a whole packet on a handle where it lies: a law for each.
 -- Assumes nothing.
-use mathlib.Core.Path.{_≡_, refl, sym, ap, _∙_}
+use mathlib.Core.Path.{_≡_, refl, sym, ap, subst, _∙_}
 use mathlib.Core.Bool.{Bool, true, false}
-use mathlib.Core.List.{List}
+use mathlib.Core.List.{List, _++_, append-nil}
 use Prim.Native.Nat.{ℕ, _+_, _*_, _≤_, _<_}
 use native.Mathlib.Omega.{arith}
-use lib.ListN.{length}
+use lib.ListN.{length, take, drop}
+use lib.Seq.{take-length, drop-length}
 use Rattle.field.specs.Bytes.{overlay}
 use Rattle.field.specs.Limits.{highestNumber}
 use Rattle.field.proofs.Parts.{part-length, overlay-own}
@@ -19,7 +20,7 @@ use Rattle.packet.specs.declared.Fault.{Fault}
 use Rattle.packet.specs.declared.Packet.{Packet}
 use Rattle.packet.specs.declared.Packet.the-variants as packet
 use Rattle.packet.proofs.Rules.{never}
-use Rattle.handle.specs.Handle.{headSize, isHandle, headOf, headBytes, handleBytes, placesIn, withLine, endedField, refusalField, withField}
+use Rattle.handle.specs.Handle.{headSize, handleSize, isHandle, headOf, headBytes, handleBytes, placesIn, withLine, endedField, refusalField, withField}
 use Rattle.handle.specs.declared.Head.{Head}
 use Rattle.handle.proofs.Rounds.{handle-length}
 use Rattle.handle.proofs.Laid.{put-over}
@@ -151,3 +152,24 @@ module _ (handle : List ℕ) (table : Memories) (g : Ready handle table) (letter
 
   pub act-other : b ≡ false → isMessage (packetOf (headOf handle .line) letter body) ≡ false
   act-other e = sym found ∙ e
+
+-- the whole handle, lent as so many bytes of it, and handed back
+module _ (handle : List ℕ) (size : length handle ≡ handleSize) where
+  all-lent : take 305 handle ≡ handle
+  all-lent = ap (λ (n : ℕ). take n handle) (sym size) ∙ take-length handle
+
+  none-left : (after : List ℕ) → after ++ drop 305 handle ≡ after
+  none-left after = ap (λ (n : ℕ). after ++ drop n handle) (sym size) ∙ ap (λ (l : List ℕ). after ++ l) (drop-length handle) ∙ append-nil after
+
+  pub act-lent : (m : Memories) → Ready handle m → (letter : ℕ) (body : List ℕ) → isMessage (packetOf (headOf handle .line) letter body) ≡ false
+      → ((t : Memories) × Ready (take 305 handle) t) × (isMessage (packetOf (headOf (take 305 handle) .line) letter body) ≡ false)
+  act-lent m ready letter body e =
+      ((m, subst (λ (x : List ℕ). Ready x m) (sym all-lent) ready), ap (λ (x : List ℕ). isMessage (packetOf (headOf x .line) letter body)) all-lent ∙ e)
+
+  pub act-back : (m : Memories) (letter : ℕ) (body after : List ℕ) {r : ℕ}
+      → left r after m ≡ closedAs (soupBinTCP deliver (sessionAt (take 305 handle) m) letter body) (take 305 handle)
+      → left r (after ++ drop 305 handle) m ≡ closedAs (soupBinTCP deliver (sessionAt handle m) letter body) handle
+  act-back m letter body after {r} e =
+      ap (λ (x : List ℕ). left r x m) (none-left after)
+      ∙ e
+      ∙ ap (λ (x : List ℕ). closedAs (soupBinTCP deliver (sessionAt x m) letter body) x) all-lent

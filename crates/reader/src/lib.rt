@@ -140,7 +140,7 @@ pub fn no_text() -> Texts
 }
 
 // Nothing is held: a whole packet is judged where it lies in the piece, which is handed on as a part of itself so that it goes in registers.
-fn straight(rows: usize, handle: &mut [u8], table: &mut [u8], index: &mut [u8], piece: &[u8]) -> u32
+fn straight(handle: &mut [u8], rows: usize, table: &mut [u8], index: &mut [u8], piece: &[u8]) -> u32
     requires { ⌜ Ready (now handle) (memories (now table) (now index)) × (rows ≡ headOf (now handle) .board .rows) ⌝ }
     ensures { λ r. ⌜ left r (now (handle .exit)) (memories (now (table .exit)) (now (index .exit))) ≡ goneOn (now (handle .entry)) (memories (now (table .entry)) (now (index .entry))) (now (piece .entry)) ⌝ }
 {
@@ -194,7 +194,7 @@ fn mended(
     let all = packet::joined(&handle[HEAD_SIZE..HANDLE_SIZE], used, piece, n);
     let end = used + n;
     handle::put_used(0, handle);
-    let number = straight(rows, handle, table, index, &all[..end]);
+    let number = straight(handle, rows, table, index, &all[..end]);
     told::tell(number, handle, &all[..end], event);
     heeded(number - used as u32 * told::BYTE_TAKEN, used, handle)
 }
@@ -242,7 +242,7 @@ fn moved(
     }
     let used = handle::used(handle);
     if used == 0 {
-        let number = straight(rows, handle, table, index, piece);
+        let number = straight(handle, rows, table, index, piece);
         if told::is_message(number) {
             told::tell_message(number, piece, event);
             return number;
@@ -264,7 +264,7 @@ fn turned(handle: &mut [u8], table: &mut [u8], index: &mut [u8], piece: &[u8]) -
     let rows = handle::rows(handle);
     let used = handle::used(handle);
     if used == 0 {
-        let number = straight(rows, handle, table, index, piece);
+        let number = straight(handle, rows, table, index, piece);
         return heeded(number, 0, handle);
     }
     let mut unheard = [0u8; RECORD_SIZE];

@@ -2,6 +2,7 @@
 use crate::deliver;
 use crate::refusals;
 use crate::told;
+use handle::HANDLE_SIZE;
 use handle::Head;
 use packet::Packet;
 ghost use mathlib.Core.Path.{_≡_};
@@ -66,7 +67,7 @@ fn other(handle: &mut [u8], letter: u8, body: &[u8]) -> u32
     }
 }
 
-// What a whole packet does.
+// What a whole packet does. A packet that is no message is handed the handle as so many bytes, so that its length is not handed down to here.
 pub fn act(
     rows: usize,
     handle: &mut [u8],
@@ -83,5 +84,5 @@ pub fn act(
     if packet::is_message(handle::logged(handle), next, letter) {
         return deliver::message(next, rows, handle, table, index, body);
     }
-    other(handle, letter, body)
+    other(&mut handle[..HANDLE_SIZE], letter, body)
 }

@@ -190,12 +190,18 @@ module _ (xs bs : List ℕ) {us : List ℕ} (e : us ≡ laid (letterPlace ∷ he
 
 -- ---- a directory
 
-pub terms-moved : (xs bs : List ℕ) {us vs ws ys zs : List ℕ} → Lent bs → 63 ≤ length bs → us ≡ overlay xs 4 (part bs 11 4) → vs ≡ overlay us 75 (part bs 15 8)
-    → ws ≡ overlay vs 68 (part bs 23 1) → ys ≡ overlay ws 69 (part bs 24 1) → zs ≡ overlay ys 70 (part bs 25 1)
+-- two bytes that are copied at once
+pair : (xs bs : List ℕ) (at from : ℕ) {zs : List ℕ} → at + 2 ≤ length xs → from + 2 ≤ length bs → zs ≡ overlay xs at (part bs from 2)
+    → zs ≡ overlay (overlay xs at (part bs from 1)) (at + 1) (part bs (from + 1) 1)
+pair xs bs at from h g e = e ∙ sym (carried-run bs from xs at 1 (1 ∷ []) g h refl (_, refl, refl))
+
+pub terms-moved : (xs bs : List ℕ) {us vs ys zs : List ℕ} → Lent bs → 63 ≤ length bs → recordSize ≤ length vs → us ≡ overlay xs 4 (part bs 11 4)
+    → vs ≡ overlay us 75 (part bs 15 8) → ys ≡ overlay vs 68 (part bs 23 2) → zs ≡ overlay ys 70 (part bs 25 1)
     → zs ≡ laid (take 5 instrumentPlaces) (values (take 5 instrumentRows) bs) xs
 unfolding paired
-terms-moved xs bs {us} {vs} {ws} {ys} {zs} k h e f g i j =
-    moved 63 (take 5 instrumentRows) (take 5 instrumentPlaces) bs xs refl h k (us, e, (vs, f, (ws, g, (ys, i, (zs, j, refl)))))
+terms-moved xs bs {us} {vs} {ys} {zs} k h l e f g j =
+    moved 63 (take 5 instrumentRows) (take 5 instrumentPlaces) bs xs refl h k
+    (us, e, (vs, f, (overlay vs 68 (part bs 23 1), refl, (ys, pair vs bs 68 23 (omega arith) (omega arith) g, (zs, j, refl)))))
 
 pub underlying-moved : (xs bs : List ℕ) {us vs zs : List ℕ} → 63 ≤ length bs → recordSize ≤ length xs → us ≡ overlay xs 83 (part bs 31 8)
     → vs ≡ overlay us 91 (part bs 39 4) → zs ≡ overlay vs 95 (part bs 43 1) → zs ≡ overlay xs 83 (part bs 31 13)
@@ -211,11 +217,12 @@ unfolding paired
 middle-moved xs bs {us} {vs} {zs} k h e f g =
     moved 63 (take 3 (drop 5 instrumentRows)) (take 3 (drop 5 instrumentPlaces)) bs xs refl h k (us, e, (vs, f, (zs, g, refl)))
 
-pub marks-moved : (xs bs : List ℕ) {us vs ws zs : List ℕ} → Lent bs → 63 ≤ length bs → us ≡ overlay xs 72 (part bs 44 1) → vs ≡ overlay us 73 (part bs 45 1)
+pub marks-moved : (xs bs : List ℕ) {vs ws zs : List ℕ} → Lent bs → 63 ≤ length bs → recordSize ≤ length xs → vs ≡ overlay xs 72 (part bs 44 2)
     → ws ≡ overlay vs 74 (part bs 46 1) → zs ≡ overlay ws 96 (part bs 47 16) → zs ≡ laid (drop 8 instrumentPlaces) (values (drop 8 instrumentRows) bs) xs
 unfolding paired
-marks-moved xs bs {us} {vs} {ws} {zs} k h e f g i =
-    moved 63 (drop 8 instrumentRows) (drop 8 instrumentPlaces) bs xs refl h k (us, e, (vs, f, (ws, g, (zs, i, refl))))
+marks-moved xs bs {vs} {ws} {zs} k h l f g i =
+    moved 63 (drop 8 instrumentRows) (drop 8 instrumentPlaces) bs xs refl h k
+    (overlay xs 72 (part bs 44 1), refl, (vs, pair xs bs 72 44 (omega arith) (omega arith) f, (ws, g, (zs, i, refl))))
 
 pub directory-moved : (xs bs : List ℕ) {us vs ws zs : List ℕ} → us ≡ laid (letterPlace ∷ stampPlaces) (values (letterPlace ∷ stampRows) bs) xs
     → vs ≡ laid (take 5 instrumentPlaces) (values (take 5 instrumentRows) bs) us → ws ≡ laid (take 3 (drop 5 instrumentPlaces)) (values (take 3 (drop 5 instrumentRows)) bs) vs

@@ -49,13 +49,13 @@ fn side_at(side: Side) -> usize
     }
 }
 
-// The record of a message's bytes, which have passed their test.
+// The record of a message's bytes, which have passed their test. They are handed on as a part of themselves, so that their place goes in a register.
 pub fn put(bytes: &[u8], out: &mut [u8])
     requires { ⌜ (tested (readOf (now bytes)) ≡ 0) × (length (now out) ≡ recordSize) ⌝ }
     ensures { λ _. ⌜ now (out .exit) ≡ readTo (readOf (now (bytes .entry)) .answer) (readOf (now (bytes .entry)) .texts) (now (out .entry)) .memory ⌝ }
 {
     field::fill(out, 0, RECORD_SIZE, 0);
-    wire::lay(bytes, out);
+    wire::lay(&bytes[..], out);
 }
 
 // The message of a record: none for bytes that are no record.

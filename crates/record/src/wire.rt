@@ -94,8 +94,7 @@ fn terms(bytes: &[u8], out: &mut [u8])
 {
     field::copy4(bytes, 11, out, 4);
     field::copy8(bytes, 15, out, 75);
-    field::copy1(bytes, 23, out, 68);
-    field::copy1(bytes, 24, out, 69);
+    field::copy2(bytes, 23, out, 68);
     field::copy1(bytes, 25, out, 70);
 }
 
@@ -131,8 +130,7 @@ fn marks(bytes: &[u8], out: &mut [u8])
     requires { ⌜ (63 ≤ length (now bytes)) × (recordSize ≤ length (now out)) ⌝ }
     ensures { λ _. ⌜ now (out .exit) ≡ laid (drop 8 instrumentPlaces) (values (drop 8 instrumentRows) (now (bytes .entry))) (now (out .entry)) ⌝ }
 {
-    field::copy1(bytes, 44, out, 72);
-    field::copy1(bytes, 45, out, 73);
+    field::copy2(bytes, 44, out, 72);
     field::copy1(bytes, 46, out, 74);
     reserved(bytes, out);
 }

@@ -2,15 +2,16 @@
 -- Assumes nothing.
 use mathlib.Core.Path.{_≡_, refl, sym, ap, _∙_}
 use mathlib.Core.Bool.{Bool, true, false, cond, _&&_, _||_}
-use mathlib.Core.List.{List}
+use mathlib.Core.List.{List, _++_}
 use Prim.Native.Nat.{ℕ, _+_, _/_, _%_}
+use native.Mathlib.Omega.{arith}
 use borrow.Author.Tests.{eq-eqb, ne-eqb}
 use lib.Dec.{eqb, leb}
-use lib.ListN.{length, replicate, length-replicate}
+use lib.ListN.{length, replicate, length-append, length-replicate}
 use Rattle.field.specs.Bytes.{part, overlay, be, bytesBe}
 use Rattle.field.specs.Limits.{priceInRange}
 use Rattle.field.specs.Text.{every, isZero}
-use Rattle.field.proofs.Parts.{overlay-whole}
+use Rattle.field.proofs.Parts.{part-replicate, overlay-own, overlay-whole, overlay-next, overlay-swap}
 use Rattle.message.specs.Layout.{priceFrom, bytesFor, values}
 use Rattle.message.specs.Letters.{listed, states, conditions, stampRows, stampFields, longNumbersRows, longNumbersFields, instrumentRows, instrumentFields}
 use Rattle.message.specs.declared.Price.{Price}
@@ -106,12 +107,29 @@ module _ (xs : List ℕ) (d : Directory) (t : Texts) {us vs : List ℕ} (e : us 
   unfolding changed directoryChanges
   directory-kept n = rw (ne-eqb (d .instrument .tradable) 78 n, ← e) f
 
-pub new-put : (xs : List ℕ) (d : Directory) (t : Texts) {zeros us vs zs : List ℕ} → length xs ≡ rowSize → zeros ≡ overlay xs 0 (replicate rowSize 0)
-    → us ≡ overlay zeros 0 (bytesFor instrumentRows (instrumentFields (d .instrument) t)) → vs ≡ overlay us 53 (bytesBe 1 32)
+-- 52 bytes and 72 zeros are all of a new row, so that it does not matter what lay there
+module _ (ys : List ℕ) (k : length ys ≡ 52) where
+  all-put : (xs : List ℕ) → length xs ≡ rowSize → overlay (overlay xs 52 (replicate 72 0)) 0 ys ≡ ys ++ replicate 72 0
+  all-put xs h =
+      let l : length {A = ℕ} (replicate 72 0) ≡ 72 = length-replicate {A = ℕ} 72 0 in
+      sym (overlay-swap xs 0 ys 52 (replicate 72 0) (omega arith) (omega arith))
+      ∙ rw k at (overlay-next xs 0 ys (replicate 72 0) (omega arith))
+      ∙ overlay-whole xs (ys ++ replicate 72 0) (length-append ys (replicate 72 0) ∙ omega arith)
+
+  over-zeros : (xs : List ℕ) → length xs ≡ rowSize → overlay (overlay xs 52 (replicate 72 0)) 0 ys ≡ overlay (replicate rowSize 0) 0 ys
+  over-zeros xs h =
+      let l : length {A = ℕ} (replicate rowSize 0) ≡ rowSize = length-replicate {A = ℕ} rowSize 0 in
+      let own : overlay (replicate rowSize 0) 52 (replicate 72 0) ≡ replicate rowSize 0
+      = ap (overlay (replicate rowSize 0) 52) (sym (part-replicate rowSize 52 72 0 (omega arith))) ∙ overlay-own (replicate rowSize 0) 52 72 (omega arith) in
+      all-put xs h ∙ sym (all-put (replicate rowSize 0) l) ∙ ap (λ (x : List ℕ). overlay x 0 ys) own
+
+pub new-put : (xs : List ℕ) (d : Directory) (t : Texts) {rest us vs zs : List ℕ} → length xs ≡ rowSize
+    → length (bytesFor instrumentRows (instrumentFields (d .instrument) t)) ≡ 52 → rest ≡ overlay xs 52 (replicate 72 0)
+    → us ≡ overlay rest 0 (bytesFor instrumentRows (instrumentFields (d .instrument) t)) → vs ≡ overlay us 53 (bytesBe 1 32)
     → zs ≡ overlay vs 96 (bytesFor stampRows (stampFields (d .stamp))) → zs ≡ newRow d t
 unfolding changed newRow
-new-put xs d t h z e f g =
-    let i : overlay xs 0 (replicate rowSize 0) ≡ replicate rowSize 0 = overlay-whole xs (replicate rowSize 0) (length-replicate {A = ℕ} rowSize 0 ∙ sym h) in
+new-put xs d t h k z e f g =
+    let i = over-zeros (bytesFor instrumentRows (instrumentFields (d .instrument) t)) k xs h in
     cc
 
 -- ---- the tests

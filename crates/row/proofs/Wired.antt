@@ -1,19 +1,19 @@
 -- What is carried from a message's bytes to a row is what the message that they say puts there.
 -- Assumes nothing.
 use mathlib.Core.Path.{_≡_, refl, sym, ap, _∙_}
-use mathlib.Core.Bool.{_&&_, and-true}
+use mathlib.Core.Bool.{Bool, true, false, _&&_, and-true}
 use mathlib.Core.List.{List, [], _∷_}
-use Prim.Native.Nat.{ℕ, _+_, _≤_}
+use Prim.Native.Nat.{ℕ, _+_, _^_, _≤_, _<_}
 use native.Mathlib.Decide.{ℕ-discrete}
 use native.Mathlib.Omega.{arith}
-use borrow.Author.Tests.{ne-eqb}
+use borrow.Author.Tests.{eq-eqb, ne-eqb, eqb-true, eqb-false}
 use lib.Dec.{eqb}
-use lib.ListN.{length, getD}
-use Rattle.field.specs.Bytes.{part, overlay, digits, be, bytesBe}
+use lib.ListN.{length, getD, replicate}
+use Rattle.field.specs.Bytes.{part, overlay, digits, be, bytesBe, turned}
 use Rattle.field.specs.Limits.{tenThousandths}
-use Rattle.field.proofs.Parts.{overlay-length, overlay-swap, part-after, part-before}
-use Rattle.field.proofs.Numbers.{Lent, lent-bytes}
-use Rattle.field.proofs.Same.{part-numbers, fields-same}
+use Rattle.field.proofs.Parts.{part-length, overlay-length, overlay-swap, part-after, part-before}
+use Rattle.field.proofs.Numbers.{Lent, lent-bytes, turned-twice}
+use Rattle.field.proofs.Same.{sameFields, part-numbers, fields-same}
 use Rattle.field.proofs.Writes.{carried-run}
 use Rattle.message.specs.Layout.{priceFrom, bytesFor, values}
 use Rattle.message.specs.Feed.{letterAmong}
@@ -27,12 +27,12 @@ use Rattle.message.proofs.Layouts.{fields-run}
 use Rattle.message.proofs.Tested.{quotes, quote-none}
 use Rattle.message.proofs.Puts.{long-numbers-put}
 use Rattle.row.specs.Fields.{rowSize, sideAt, sidesOf, seenWith}
-use Rattle.row.specs.Changes.{changed, purge, directoryChanges, unchanged, actionChanges, sidesChanges, quoteChanges}
+use Rattle.row.specs.Changes.{changed, purge, directoryChanges, unchanged, newRow, actionChanges, sidesChanges, quoteChanges}
 use Rattle.row.specs.Wire.{stampIn, longIn, shortIn, actionIn, instrumentIn, textsIn, directoryIn, sidesIn, quoteIn}
 use Rattle.row.specs.declared.Sides.{Sides}
 use Rattle.row.specs.declared.Sides.the-variants.{One, Both}
 use Rattle.row.proofs.Quoted.{widened-amount}
-use Rattle.row.proofs.Puts.{action-put, directory-put, directory-kept, quote-put}
+use Rattle.row.proofs.Puts.{action-put, directory-put, directory-kept, new-put, quote-put}
 
 -- ---- fields side by side
 
@@ -43,16 +43,19 @@ stamp-carried xs bs {us} {zs} k h g e f =
     carried-run bs 1 xs 96 2 (8 ∷ []) h (omega arith) e (zs, f, refl)
     ∙ ap (overlay xs 96) (sym (fields-run stampRows bs 1 (refl, refl, (refl, refl, tt)) (lent-bytes bs k) h))
 
+-- the bytes that a directory and a row share are those of the message
+shared : (bs : List ℕ) → Lent bs → 63 ≤ length bs → bytesFor instrumentRows (instrumentFields (instrumentIn bs) (textsIn bs)) ≡ part bs 11 52
+unfolding values
+shared bs k h =
+    fields-run instrumentRows bs 11
+    (refl, refl, (refl, refl, (refl, refl, (refl, refl, (refl, refl, (refl, refl, (refl, refl, (refl, refl, (refl, refl, (refl, refl, (refl, refl, (refl, refl, tt))))))))))))
+    (lent-bytes bs k) h
+
 pub entry-carried : (xs bs : List ℕ) {ts us vs zs : List ℕ} → Lent bs → 63 ≤ length bs → rowSize ≤ length xs
     → ts ≡ overlay xs 0 (part bs 11 32) → us ≡ overlay ts 32 (part bs 43 8) → vs ≡ overlay us 40 (part bs 51 8) → zs ≡ overlay vs 48 (part bs 59 4)
     → zs ≡ overlay xs 0 (bytesFor instrumentRows (instrumentFields (instrumentIn bs) (textsIn bs)))
-unfolding values
 entry-carried xs bs {ts} {us} {vs} {zs} k h g d e f i =
-    carried-run bs 11 xs 0 32 (8 ∷ 8 ∷ 4 ∷ []) h (omega arith) d (us, e, (vs, f, (zs, i, refl)))
-    ∙ ap (overlay xs 0)
-    (sym (fields-run instrumentRows bs 11
-    (refl, refl, (refl, refl, (refl, refl, (refl, refl, (refl, refl, (refl, refl, (refl, refl, (refl, refl, (refl, refl, (refl, refl, (refl, refl, (refl, refl, tt))))))))))))
-    (lent-bytes bs k) h))
+    carried-run bs 11 xs 0 32 (8 ∷ 8 ∷ 4 ∷ []) h (omega arith) d (us, e, (vs, f, (zs, i, refl))) ∙ ap (overlay xs 0) (sym (shared bs k h))
 
 pub start-carried : (xs bs : List ℕ) {ts us vs zs : List ℕ} → 63 ≤ length bs → rowSize ≤ length xs
     → ts ≡ overlay xs 0 (part bs 11 8) → us ≡ overlay ts 8 (part bs 19 8) → vs ≡ overlay us 16 (part bs 27 8) → zs ≡ overlay vs 24 (part bs 35 8)
@@ -89,21 +92,35 @@ module _ (xs bs : List ℕ) {v : ℕ} {us vs : List ℕ} (e : us ≡ overlay xs 
   unfolding values
   directory-wired-kept n = directory-kept xs (directoryIn bs) (textsIn bs) e f (λ z. n (i ∙ z))
 
--- eight bytes are the symbol, and eight the date, the strike and the type
-pub fixed-wired : (xs bs : List ℕ) {a b d e : ℕ} → Lent xs → Lent bs → rowSize ≤ length xs → 63 ≤ length bs → a ≡ be (part xs 4 8) → b ≡ be (part bs 15 8)
-    → d ≡ be (part xs 12 8) → e ≡ be (part bs 23 8) → eqb a b && eqb d e ≡ unchanged (instrumentIn bs) (textsIn bs) xs
-unfolding unchanged values
-fixed-wired xs bs k l h g p q r s =
-    rw (
-      p,
-      q,
-      r,
-      s,
-      part-numbers xs bs (lent-bytes xs k) (lent-bytes bs l) 8 4 15 (omega arith) (omega arith),
-      part-numbers xs bs (lent-bytes xs k) (lent-bytes bs l) 8 12 23 (omega arith) (omega arith),
-      fields-same xs bs (lent-bytes xs k) (lent-bytes bs l) (1 ∷ 1 ∷ 1 ∷ 4 ∷ 1 ∷ []) 12 23 (omega arith) (omega arith),
-    )
-    (simp and-true)
+pub new-wired : (xs bs : List ℕ) {rest us vs zs : List ℕ} → Lent bs → length xs ≡ rowSize → 63 ≤ length bs → rest ≡ overlay xs 52 (replicate 72 0)
+    → us ≡ overlay rest 0 (bytesFor instrumentRows (instrumentFields (instrumentIn bs) (textsIn bs))) → vs ≡ overlay us 53 (bytesBe 1 32)
+    → zs ≡ overlay vs 96 (bytesFor stampRows (stampFields (stampIn bs))) → zs ≡ newRow (directoryIn bs) (textsIn bs)
+unfolding values
+new-wired xs bs k h g z e f i = new-put xs (directoryIn bs) (textsIn bs) h (ap length (shared bs k g) ∙ part-length bs 11 52 (omega arith)) z e f i
+
+-- two numbers read with the lowest byte first are the same where those of their bytes are
+low-first : (u v : ℕ) {x y : ℕ} → u < 2 ^ 32 → v < 2 ^ 32 → turned u ≡ x → turned v ≡ y → eqb u v ≡ eqb x y
+low-first u v {x} {y} h k e f = sym (by (eqb u v) refl)
+  where
+    by : (so : Bool) → eqb u v ≡ so → eqb x y ≡ so
+    by true s = eq-eqb x y (sym e ∙ ap turned (eqb-true u v s) ∙ f)
+    by false s = ne-eqb x y (λ p. eqb-false u v s (sym (turned-twice u h) ∙ ap turned (e ∙ p ∙ sym f) ∙ turned-twice v k))
+
+-- of the 16 bytes, eight are the symbol, and eight the date, the strike and the type
+module _ (xs bs : List ℕ) (k : Lent xs) (l : Lent bs) (h : rowSize ≤ length xs) (g : 63 ≤ length bs) where
+  fours-same : sameFields xs 4 bs 15 (4 ∷ 4 ∷ 4 ∷ 4 ∷ []) ≡ unchanged (instrumentIn bs) (textsIn bs) xs
+  unfolding unchanged values
+  fours-same =
+      sym (fields-same xs bs (lent-bytes xs k) (lent-bytes bs l) (4 ∷ 4 ∷ 4 ∷ 4 ∷ []) 4 15 (omega arith) (omega arith))
+      ∙ fields-same xs bs (lent-bytes xs k) (lent-bytes bs l) (8 ∷ 1 ∷ 1 ∷ 1 ∷ 4 ∷ 1 ∷ []) 4 15 (omega arith) (omega arith)
+      ∙ rw (part-numbers xs bs (lent-bytes xs k) (lent-bytes bs l) 8 4 15 (omega arith) (omega arith)) (simp and-true)
+
+  pub fixed-wired : {a b d e f p q r : ℕ} → a < 2 ^ 32 → b < 2 ^ 32 → d < 2 ^ 32 → e < 2 ^ 32 → f < 2 ^ 32 → p < 2 ^ 32 → q < 2 ^ 32 → r < 2 ^ 32
+      → turned a ≡ be (part xs 4 4) → turned b ≡ be (part bs 15 4) → turned d ≡ be (part xs 8 4) → turned e ≡ be (part bs 19 4)
+      → turned f ≡ be (part xs 12 4) → turned p ≡ be (part bs 23 4) → turned q ≡ be (part xs 16 4) → turned r ≡ be (part bs 27 4)
+      → eqb a b && (eqb d e && (eqb f p && eqb q r)) ≡ unchanged (instrumentIn bs) (textsIn bs) xs
+  fixed-wired {a} {b} {d} {e} {f} {p} {q} {r} a′ b′ d′ e′ f′ p′ q′ r′ s t u v w x y z =
+      rw (low-first a b a′ b′ s t, low-first d e d′ e′ u v, low-first f p f′ p′ w x, low-first q r q′ r′ y z) (simp and-true at fours-same)
 
 -- ---- the sides of a quote, the numbers first
 

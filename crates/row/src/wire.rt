@@ -120,24 +120,27 @@ fn put_start(row: &mut [u8], bytes: &[u8])
     field::copy8(bytes, 35, row, 24);
 }
 
-// The 52 bytes that a directory and a row share.
+// The 52 bytes that a directory and a row share. The bytes are taken as a part of themselves, so that their place is handed over in a register.
 fn put_entry(row: &mut [u8], bytes: &[u8])
     requires { ⌜ (rowSize ≤ length (now row)) × (63 ≤ length (now bytes)) ⌝ }
     ensures { λ r. ⌜ now (row .exit) ≡ overlay (now (row .entry)) 0 (bytesFor instrumentRows (instrumentFields (instrumentIn (now (bytes .entry))) (textsIn (now (bytes .entry))))) ⌝ }
 {
-    put_start(row, bytes);
-    field::copy8(bytes, 43, row, 32);
-    field::copy8(bytes, 51, row, 40);
-    field::copy4(bytes, 59, row, 48);
+    let whole = &bytes[..];
+    put_start(row, whole);
+    field::copy8(whole, 43, row, 32);
+    field::copy8(whole, 51, row, 40);
+    field::copy4(whole, 59, row, 48);
 }
 
-// Are symbol, date, strike and type those of the row?
+// Are symbol, date, strike and type those of the row? The 16 bytes are compared as they lie.
 pub fn unchanged(row: &[u8], bytes: &[u8]) -> bool
     requires { ⌜ (rowSize ≤ length (now row)) × (63 ≤ length (now bytes)) ⌝ }
     ensures { λ r. ⌜ r ≡ unchanged (instrumentIn (now (bytes .entry))) (textsIn (now (bytes .entry))) (now (row .entry)) ⌝ }
 {
-    (field::read8(row, 4) == field::read8(bytes, 15))
-        & (field::read8(row, 12) == field::read8(bytes, 23))
+    (field::read4_low_first(row, 4) == field::read4_low_first(bytes, 15))
+        & ((field::read4_low_first(row, 8) == field::read4_low_first(bytes, 19))
+            & ((field::read4_low_first(row, 12) == field::read4_low_first(bytes, 23))
+                & (field::read4_low_first(row, 16) == field::read4_low_first(bytes, 27))))
 }
 
 // A directory for the row's own id.
@@ -152,12 +155,12 @@ pub fn put_directory(row: &mut [u8], bytes: &[u8])
     }
 }
 
-// A directory for an id that has no row yet.
+// A directory for an id that has no row yet: the bytes that no directory sets are zero.
 pub fn put_new(row: &mut [u8], bytes: &[u8])
     requires { ⌜ (length (now row) ≡ rowSize) × (63 ≤ length (now bytes)) ⌝ }
     ensures { λ r. ⌜ now (row .exit) ≡ newRow (directoryIn (now (bytes .entry))) (textsIn (now (bytes .entry))) ⌝ }
 {
-    field::fill(row, 0, crate::ROW_SIZE, 0);
+    field::fill(row, 52, 72, 0);
     put_entry(row, bytes);
     field::write1(row, 53, b' ');
     put_stamp(row, bytes);

@@ -65,7 +65,7 @@ tell-message-requires c κs =
 returns-2 : tie.Need-returns-2
 returns-2 c =
     let start = c .before .before .before .before .before .before .before .before .before .before .before .before .before .before .before .before .before .before .before .before .before .before .before .before .before .before .before in
-    let size-after : length (c .before .before .before .before .before .before .before .before .before .before .before .before .straight .last .1 .0) ≡ handleSize = search (needs, size start, c .before .before .before .before .before .before .before .before .before .before .before .handle) in
+    let size-after : length (c .before .before .before .before .before .before .before .before .before .before .before .before .straight .last .0) ≡ handleSize = search (needs, size start, c .before .before .before .before .before .before .before .before .before .before .before .handle) in
     let t = told-there (now (start .args .handle)) (memory start) (now (start .args .piece)) (now (start .args .event)) (turned-ready (now (start .args .handle)) (memory start) (now (start .args .piece)) (lent (c .before .before .before .before .before .before .before .before .before .before .before .before .before .before .before .before .before .before .before .before .before .before .before .before .before .before)) (start .pre .0) (c .before .before .before .before .before .before .before .before .before .before .before .before .before .before .before .before .before .before .before .before .goes-on .ensures) (c .before .before .before .before .before .before .before .before .before .before .before .before .before .before .before .before .before .before .before .if1 .left) (c .before .before .before .before .before .before .before .before .before .before .before .before .before .before .before .before .before .used .ensures) (c .before .before .before .before .before .before .before .before .before .before .before .before .before .before .before .before .if2 .taken)) (lent-bytes (now (start .args .handle)) (lent (c .before .before .before .before .before .before .before .before .before .before .before .before .before .before .before .before .before .before .before .before .before .before .before .before .before .before))) (piece-bytes (c .before .before .before .before .before .before .before .before .before .before .before .before .before .before .before .before .before .before .before .before .before .before .before)) (start .pre .1 .0) size-after (c .before .before .before .before .before .before .before .before .before .before .before .before .straight .ensures) in
     steps-told (now (start .args .handle)) (memory start) (now (start .args .piece)) (now (start .args .event)) (start .pre .1 .0) (is start) (turned-live (now (start .args .handle)) (memory start) (now (start .args .piece)) (lent (c .before .before .before .before .before .before .before .before .before .before .before .before .before .before .before .before .before .before .before .before .before .before .before .before .before .before)) (start .pre .0) (c .before .before .before .before .before .before .before .before .before .before .before .before .before .before .before .before .before .before .before .before .goes-on .ensures) (c .before .before .before .before .before .before .before .before .before .before .before .before .before .before .before .before .before .before .before .if1 .left) (unheeded (now (start .args .handle)) (memory start) (turned-going (now (start .args .handle)) (memory start) (now (start .args .piece)) (lent (c .before .before .before .before .before .before .before .before .before .before .before .before .before .before .before .before .before .before .before .before .before .before .before .before .before .before)) (start .pre .0) (c .before .before .before .before .before .before .before .before .before .before .before .before .before .before .before .before .before .before .before .before .goes-on .ensures) (c .before .before .before .before .before .before .before .before .before .before .before .before .before .before .before .before .before .before .before .if1 .left)) (none-held start (c .before .before .before .before .before .before .before .before .before .before .before .before .before .before .before .before .before .used .ensures) (c .before .before .before .before .before .before .before .before .before .before .before .before .before .before .before .before .if2 .taken)) (lent (c .before .before .before .before .before .before .before .before .before .before .before .before .before .before .before .before .before .before .before .before .before .before .before .before .before .before)) (now (start .args .piece)) (piece-bytes (c .before .before .before .before .before .before .before .before .before .before .before .before .before .before .before .before .before .before .before .before .before .before .before)) (c .before .before .before .before .before .before .before .before .before .before .before .before .straight .ensures) (eqb-true _ 768 (sym (c .before .before .before .before .before .is-message .ensures) ∙ c .before .before .before .before .if3 .taken))))
     (c .before .before .tell-message .ensures _ ∙ t .is ∙ answers (now (start .args .handle)) (memory start) (now (start .args .piece)) (lent (c .before .before .before .before .before .before .before .before .before .before .before .before .before .before .before .before .before .before .before .before .before .before .before .before .before .before)) (start .pre .0) (c .before .before .before .before .before .before .before .before .before .before .before .before .before .before .before .before .before .before .before .before .goes-on .ensures) (c .before .before .before .before .before .before .before .before .before .before .before .before .before .before .before .before .before .before .before .if1 .left) (now (start .args .event)))
@@ -81,7 +81,7 @@ heeded-requires c κs = search (needs, size (c .before .before .before .before .
 returns-3 : tie.Need-returns-3
 returns-3 c =
     let start = c .before .before .before .before .before .before .before .before .before .before .before .before .before .before .before .before .before .before .before .before .before .before .before .before .before .before .before .before .before .before .before .before in
-    let size-after : length (c .before .before .before .before .before .before .before .before .before .before .before .before .before .before .before .before .before .straight .last .1 .0) ≡ handleSize = search (needs, size start, c .before .before .before .before .before .before .before .before .before .before .before .before .before .before .before .before .handle) in
+    let size-after : length (c .before .before .before .before .before .before .before .before .before .before .before .before .before .before .before .before .before .straight .last .0) ≡ handleSize = search (needs, size start, c .before .before .before .before .before .before .before .before .before .before .before .before .before .before .before .before .handle) in
     let t = told-there (now (start .args .handle)) (memory start) (now (start .args .piece)) (now (start .args .event)) (turned-ready (now (start .args .handle)) (memory start) (now (start .args .piece)) (lent (c .before .before .before .before .before .before .before .before .before .before .before .before .before .before .before .before .before .before .before .before .before .before .before .before .before .before .before .before .before .before .before)) (start .pre .0) (c .before .before .before .before .before .before .before .before .before .before .before .before .before .before .before .before .before .before .before .before .before .before .before .before .before .goes-on .ensures) (c .before .before .before .before .before .before .before .before .before .before .before .before .before .before .before .before .before .before .before .before .before .before .before .before .if1 .left) (c .before .before .before .before .before .before .before .before .before .before .before .before .before .before .before .before .before .before .before .before .before .before .used .ensures) (c .before .before .before .before .before .before .before .before .before .before .before .before .before .before .before .before .before .before .before .before .before .if2 .taken)) (lent-bytes (now (start .args .handle)) (lent (c .before .before .before .before .before .before .before .before .before .before .before .before .before .before .before .before .before .before .before .before .before .before .before .before .before .before .before .before .before .before .before))) (piece-bytes (c .before .before .before .before .before .before .before .before .before .before .before .before .before .before .before .before .before .before .before .before .before .before .before .before .before .before .before .before)) (start .pre .1 .0) size-after (c .before .before .before .before .before .before .before .before .before .before .before .before .before .before .before .before .before .straight .ensures) in
     let at-heeded = c .before .before in
     steps-told (now (start .args .handle)) (memory start) (now (start .args .piece)) (now (start .args .event)) (start .pre .1 .0) (is start) (turned-live (now (start .args .handle)) (memory start) (now (start .args .piece)) (lent (c .before .before .before .before .before .before .before .before .before .before .before .before .before .before .before .before .before .before .before .before .before .before .before .before .before .before .before .before .before .before .before)) (start .pre .0) (c .before .before .before .before .before .before .before .before .before .before .before .before .before .before .before .before .before .before .before .before .before .before .before .before .before .goes-on .ensures) (c .before .before .before .before .before .before .before .before .before .before .before .before .before .before .before .before .before .before .before .before .before .before .before .before .if1 .left) (heeded-as (now (start .args .handle)) (memory start) (turned-going (now (start .args .handle)) (memory start) (now (start .args .piece)) (lent (c .before .before .before .before .before .before .before .before .before .before .before .before .before .before .before .before .before .before .before .before .before .before .before .before .before .before .before .before .before .before .before)) (start .pre .0) (c .before .before .before .before .before .before .before .before .before .before .before .before .before .before .before .before .before .before .before .before .before .before .before .before .before .goes-on .ensures) (c .before .before .before .before .before .before .before .before .before .before .before .before .before .before .before .before .before .before .before .before .before .before .before .before .if1 .left)) (none-held start (c .before .before .before .before .before .before .before .before .before .before .before .before .before .before .before .before .before .before .before .before .before .before .used .ensures) (c .before .before .before .before .before .before .before .before .before .before .before .before .before .before .before .before .before .before .before .before .before .if2 .taken)) (lent (c .before .before .before .before .before .before .before .before .before .before .before .before .before .before .before .before .before .before .before .before .before .before .before .before .before .before .before .before .before .before .before)) (now (start .args .piece)) (piece-bytes (c .before .before .before .before .before .before .before .before .before .before .before .before .before .before .before .before .before .before .before .before .before .before .before .before .before .before .before .before)) (c .before .before .before .before .before .before .before .before .before .before .before .before .before .before .before .before .before .straight .ensures) (sym (c .before .before .before .before .before .before .before .before .before .before .before .before .before .before .before .before .before .before .before .before .before .if2 .taken) ∙ c .before .before .before .before .before .before .before .before .before .before .before .before .before .before .before .before .before .before .before .before .before .before .used .ensures) (at-heeded .heeded .ensures .0) (at-heeded .heeded .ensures .1)))

@@ -1,13 +1,15 @@
 -- `reader::packets::act` meets its contract.
 -- Assumes nothing.
 use borrow.Author.Needs.{needs}
-use mathlib.Core.Path.{_≡_}
+use native.Mathlib.Omega.{arith}
+use mathlib.Core.Path.{_≡_, sym}
 use lib.ListN.{length}
+use lib.Seq.{length-take-le}
 use denote.Ref.{now}
 use Rattle.handle.specs.Handle.{handleSize}
 use Rattle.handle.proofs.Rounds.{handle-length}
 use Rattle.table.specs.Memory.{Memories, memories}
-use Rattle.reader.proofs.Judged.{act-counts, act-message, act-other}
+use Rattle.reader.proofs.Judged.{act-counts, act-message, act-other, act-lent, act-back}
 use Rattle.reader.proofs.packets.act.Statement.{statement}
 use Rattle.reader.proofs.packets.act.Tie as tie
 
@@ -34,15 +36,23 @@ returns c =
     let start = c .before .before .before .before .before .before .before .before .before .before .before .before .before .before .before .before .before .before .before .before in
     (act-message (now (start .args .handle)) (memory start) (start .pre .0) (start .args .letter) (now (start .args .body)) (c .before .before .before .before .before .before .before .before .before .before .before .before .before .before .next .ensures) (c .before .before .before .before .before .before .before .before .before .before .before .before .logged .ensures) (c .before .before .before .before .before .before .before .before .before .before .before .is-message .ensures) (c .before .before .before .before .before .before .before .before .before .before .if1 .taken) (c .before .before .before .before .before .before .message .ensures .0), c .before .before .before .before .before .before .message .ensures .1)
 
+slice-relend-prefix-other : tie.Need-slice-relend-prefix-other
+slice-relend-prefix-other c = search (needs, size (c .before .before .before .before .before .before .before .before .before .before))
+
+slice-aggregate-other : tie.Need-slice-aggregate-other
+slice-aggregate-other c =
+    let start = c .before .before .before .before .before .before .before .before .before .before .before in
+    sym (length-take-le handleSize (now (start .args .handle)) (omega (arith, size start)))
+
 other-requires : tie.Need-other-requires
 other-requires c κs =
     let start = c .before .before .before .before .before .before .before .before .before .before .before in
-    ((memory start, start .pre .0), act-other (now (start .args .handle)) (memory start) (start .pre .0) (start .args .letter) (now (start .args .body)) (c .before .before .before .before .before .next .ensures) (c .before .before .before .logged .ensures) (c .before .before .is-message .ensures) (c .before .if1 .left))
+    act-lent (now (start .args .handle)) (size start) (memory start) (start .pre .0) (start .args .letter) (now (start .args .body)) (act-other (now (start .args .handle)) (memory start) (start .pre .0) (start .args .letter) (now (start .args .body)) (c .before .before .before .before .before .next .ensures) (c .before .before .before .logged .ensures) (c .before .before .is-message .ensures) (c .before .if1 .left))
 
 returns-2 : tie.Need-returns-2
 returns-2 c =
     let start = c .before .before .before .before .before .before .before .before .before .before .before .before .before .before in
-    (c .before .before .other .ensures .0 (memory start), c .before .before .other .ensures .1)
+    (act-back (now (start .args .handle)) (size start) (memory start) (start .args .letter) (now (start .args .body)) (c .before .before .other .last .0) (c .before .before .other .ensures .0 (memory start)), c .before .before .other .ensures .1)
 
 pub act-spec : {M : Type 1} → statement M
-act-spec = tie.close (tie.spec next-requires logged-requires (λ c κs. search needs) message-requires (λ c. search needs) (λ c. search needs) (λ c. search needs) returns other-requires (λ c. search needs) returns-2)
+act-spec = tie.close (tie.spec next-requires logged-requires (λ c κs. search needs) message-requires (λ c. search needs) (λ c. search needs) (λ c. search needs) returns slice-relend-prefix-other slice-aggregate-other other-requires (λ c. search needs) returns-2)

@@ -1,12 +1,12 @@
 -- `row::wire::put_new` meets its contract.
 -- Assumes nothing.
 use borrow.Author.Needs.{needs}
-use Rattle.row.proofs.Puts.{new-put}
+use Rattle.row.proofs.Wired.{new-wired}
 use Rattle.row.proofs.wire.put_new.Statement.{statement}
 use Rattle.row.proofs.wire.put_new.Tie as tie
 
 returns : tie.Need-returns
-returns c = search (new-put, needs)
+returns c = search (new-wired, needs)
 
 pub put-new-spec : {M : Type 1} → statement M
 put-new-spec =

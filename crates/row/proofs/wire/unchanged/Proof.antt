@@ -1,5 +1,6 @@
 -- `row::wire::unchanged` meets its contract.
 -- Assumes nothing.
+use native.Mathlib.Omega.{arith}
 use borrow.Author.Needs.{needs}
 use Rattle.row.proofs.Wired.{fixed-wired}
 use Rattle.row.proofs.wire.unchanged.Statement.{statement}
@@ -11,4 +12,4 @@ returns c = search (fixed-wired, needs)
 pub unchanged-spec : {M : Type 1} → statement M
 unchanged-spec =
     tie.close
-    (tie.spec (λ c κs. search needs) (λ c κs. search needs) (λ c κs. search needs) (λ c κs. search needs) returns)
+    (tie.spec (λ c κs. search needs) (λ c κs. search needs) (λ c κs. search needs) (λ c κs. search needs) (λ c κs. search needs) (λ c κs. search needs) (λ c κs. search needs) (λ c κs. search needs) returns)
