@@ -179,10 +179,11 @@ text-run (c ∷ cs) some = by (isSpace c) refl
 
 -- ---- what the code finds at a part
 
-module _ (xs : List ℕ) (at n k : ℕ) (fits : at + n ≤ length xs) where
-  pub only-part : (p : ℕ → Bool) → k ≡ leading p (part xs at n) → eqb k n ≡ every p (part xs at n)
-  only-part p e = rw e (rw (part-length xs at n fits) at (leading-every p (part xs at n)))
+-- as many at the front as there are: each of them
+pub only-part : (xs : List ℕ) (at n k : ℕ) → at + n ≤ length xs → (p : ℕ → Bool) → k ≡ leading p (part xs at n) → eqb k n ≡ every p (part xs at n)
+only-part xs at n k fits p e = rw e (rw (part-length xs at n fits) at (leading-every p (part xs at n)))
 
+module _ (xs : List ℕ) (at n k : ℕ) (fits : at + n ≤ length xs) where
   pub no-text-part : k ≡ leading isGraphic (part xs at n) → k ≡ 0 → false ≡ isText (part xs at n)
   no-text-part e z = sym (text-none (part xs at n) (sym e ∙ z))
 
@@ -191,3 +192,8 @@ module _ (xs : List ℕ) (at n k : ℕ) (fits : at + n ≤ length xs) where
   text-part {r} e h z t =
       t ∙ ap (every isSpace) (sym (part-drop xs at n k h)) ∙ ap (λ (j : ℕ). every isSpace (drop j (part xs at n))) e
       ∙ sym (text-run (part xs at n) (λ f. z (e ∙ f)))
+
+  -- as many spaces follow as there are bytes left
+  pub text-ends : {j : ℕ} → k ≡ leading isGraphic (part xs at n) → k ≤ n → (k ≡ 0 → ⊥) → j ≡ leading isSpace (part xs (at + k) (n - k))
+      → eqb j (n - k) ≡ isText (part xs at n)
+  text-ends {j} e h z f = text-part e h z (only-part xs (at + k) (n - k) j (omega arith) isSpace f)

@@ -47,5 +47,5 @@ pub fn is_text(s: &[u8], at: usize, n: usize) -> bool
     if k == 0 {
         return false;
     }
-    only(s, at + k, n - k, b' ')
+    run(s, at + k, n - k, b' ', b' ') == n - k
 }

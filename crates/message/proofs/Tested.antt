@@ -1,7 +1,7 @@
 -- Bytes tested where they lie: each way through the tests gives what reading says.
 -- Assumes nothing.
 use mathlib.Core.Path.{_≡_, refl, sym, ap, _∙_}
-use mathlib.Core.Bool.{Bool, true, false, _&&_, cond, not, and-true}
+use mathlib.Core.Bool.{Bool, true, false, _&&_, cond, not, and-true, and-false}
 use mathlib.Core.List.{List, [], _∷_}
 use Prim.Native.Nat.{ℕ, suc, _+_, _≤_, _<_}
 use native.Mathlib.Decide.{ℕ-discrete}
@@ -203,14 +203,23 @@ rare-none c n1 n2 n3 n4 q = by (ℕ-discrete (letterIn letters c .size) 0)
     by (no n) = absurd (n4 (rare-last c n1 n2 n3 q n))
 
 -- the fields of each, where they lie
-pub entry-tested : (bs : List ℕ) (symbol date strike kind underlying marks : ℕ) {a b d e f g h k l n : Bool} {y m z t o w v : ℕ} → a ≡ isText (part bs symbol 8)
-    → y ≡ be (part bs date 1) → b ≡ within 0 99 y → m ≡ be (part bs (date + 1) 1) → d ≡ within 1 12 m → z ≡ be (part bs (date + 2) 1) → e ≡ within 1 31 z
-    → f ≡ priceInRange (be (part bs strike 4)) → t ≡ be (part bs kind 1) → g ≡ listed optionTypes t → h ≡ isText (part bs underlying 13)
-    → o ≡ be (part bs marks 1) → k ≡ listed closings o → w ≡ be (part bs (marks + 1) 1) → l ≡ listed tradables w → v ≡ be (part bs (marks + 2) 1)
-    → n ≡ listed variations v → a && (b && (d && (e && (f && (g && (h && (k && (l && n)))))))) ≡ entryKeeps bs symbol date strike kind underlying marks
-unfolding entryKeeps
-entry-tested bs symbol date strike kind underlying marks p1 i1 p2 i2 p3 i3 p4 p5 i4 p6 p7 i5 p8 i6 p9 i7 p10 =
-    rw (p1, p2, i1, p3, i2, p4, i3, p5, p6, i4, p7, p8, i5, p9, i6, p10, i7)
+module _ (bs : List ℕ) (symbol date strike kind underlying marks : ℕ) where
+  pub entry-no-symbol : {a : Bool} → a ≡ isText (part bs symbol 8) → not a ≡ true → false ≡ entryKeeps bs symbol date strike kind underlying marks
+  unfolding entryKeeps
+  entry-no-symbol {a} p q = rw (← p, not-true a q)
+
+  pub entry-no-underlying : {h : Bool} → h ≡ isText (part bs underlying 13) → not h ≡ true → false ≡ entryKeeps bs symbol date strike kind underlying marks
+  unfolding entryKeeps
+  entry-no-underlying {h} p q = rw (← p, not-true h q) (sym (simp and-false))
+
+  pub entry-tested : {a b d e f g h k l n : Bool} {y m z t o w v : ℕ} → a ≡ isText (part bs symbol 8) → not a ≡ false → h ≡ isText (part bs underlying 13) → not h ≡ false
+      → y ≡ be (part bs date 1) → b ≡ within 0 99 y → m ≡ be (part bs (date + 1) 1) → d ≡ within 1 12 m → z ≡ be (part bs (date + 2) 1) → e ≡ within 1 31 z
+      → f ≡ priceInRange (be (part bs strike 4)) → t ≡ be (part bs kind 1) → g ≡ listed optionTypes t
+      → o ≡ be (part bs marks 1) → k ≡ listed closings o → w ≡ be (part bs (marks + 1) 1) → l ≡ listed tradables w → v ≡ be (part bs (marks + 2) 1)
+      → n ≡ listed variations v → b && (d && (e && (f && (g && (k && (l && n)))))) ≡ entryKeeps bs symbol date strike kind underlying marks
+  unfolding entryKeeps
+  entry-tested {a} {h = h} p1 q1 p7 q7 i1 p2 i2 p3 i3 p4 p5 i4 p6 i5 p8 i6 p9 i7 p10 =
+      rw (← p1, ← p7, not-false a q1, not-false h q7, p2, i1, p3, i2, p4, i3, p5, p6, i4, p8, i5, p9, i6, p10, i7)
 
 -- the places of an entry's own bytes
 pub entry-rules : (bs : List ℕ) {r : Bool} → r ≡ entryKeeps bs 4 12 15 19 20 33 → r ≡ keepsAll entryRows (values entryRows bs)

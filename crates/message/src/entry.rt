@@ -164,16 +164,21 @@ pub fn keep_at(
         × (underlying + 13 ≤ length (now s)) × (marks + 3 ≤ length (now s)) ⌝ }
     ensures { λ r. ⌜ r ≡ entryKeeps (now (s .entry)) symbol date strike kind underlying marks ⌝ }
 {
-    text::is_text(s, symbol, 8)
-        & (is_within(0, 99, field::read1(s, date))
-            & (is_within(1, 12, field::read1(s, date + 1))
-                & (is_within(1, 31, field::read1(s, date + 2))
-                    & (limits::price_keeps(s, strike)
-                        & (codes::is_type(field::read1(s, kind))
-                            & (text::is_text(s, underlying, 13)
-                                & (codes::is_closing(field::read1(s, marks))
-                                    & (codes::is_tradable(field::read1(s, marks + 1))
-                                        & codes::is_variation(field::read1(s, marks + 2))))))))))
+    let whole = &s[..];
+    if !text::is_text(whole, symbol, 8) {
+        return false;
+    }
+    if !text::is_text(whole, underlying, 13) {
+        return false;
+    }
+    is_within(0, 99, field::read1(whole, date))
+        & (is_within(1, 12, field::read1(whole, date + 1))
+            & (is_within(1, 31, field::read1(whole, date + 2))
+                & (limits::price_keeps(whole, strike)
+                    & (codes::is_type(field::read1(whole, kind))
+                        & (codes::is_closing(field::read1(whole, marks))
+                            & (codes::is_tradable(field::read1(whole, marks + 1))
+                                & codes::is_variation(field::read1(whole, marks + 2))))))))
 }
 
 // The rules of an instrument, tested where its bytes lie.

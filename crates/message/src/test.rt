@@ -100,19 +100,20 @@ fn rare_length(letter: u8) -> usize
     }
 }
 
-// Bytes whose letter is no quote's.
+// Bytes whose letter is no quote's. They are taken as a part of themselves, so that their place and length are handed over in registers.
 pub fn rarer(letter: u8, bytes: &[u8]) -> u32
     requires { ⌜ quoteLength letter ≡ 0 ⌝ }
     ensures { λ r. ⌜ r ≡ tested (readAs (letterIn letters letter) (now (bytes .entry))) ⌝ }
 {
+    let whole = &bytes[..];
     let size = rare_length(letter);
     if size == 0 {
         return 10;
     }
-    if bytes.len() != size {
+    if whole.len() != size {
         return 11;
     }
-    if fields_keep(letter, bytes) {
+    if fields_keep(letter, whole) {
         return 0;
     }
     12
