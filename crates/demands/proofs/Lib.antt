@@ -5,6 +5,7 @@ pub mod Kept
 pub mod Names
 pub mod Equal
 pub mod Runs
+pub mod Walked
 pub mod Callers
 pub mod Refused
 pub mod Astray

@@ -3,5 +3,6 @@ pub mod Ceiling
 pub mod Runs
 pub mod Refused
 pub mod Astray
+pub mod Found
 pub mod Resume
 pub mod Wrong
