@@ -1,4 +1,4 @@
--- A step on memory that the host lends: what it answers, and every byte of handle, table and event memory that it leaves.
+-- A step on memory that the host lends: what it answers, and every byte of handle, table, index and event memory that it leaves.
 -- Assumes nothing.
 use Prim.Native.Nat.{ℕ, _+_, _*_, _/_, _%_}
 use mathlib.Core.Path.{_≡_}

@@ -54,7 +54,7 @@ saveAll r memory out =
     (writtenBy (saveOf (headerOf r) memory out))
     (record { refusal = refusalNumber Unfit; count = 0; out = out })
 
--- THE PROMISE OF SAVING: table memory and an output were memories, and an answer came and the output was left so
+-- THE PROMISE OF SAVING: table memory and an output were lent, and an answer came and the output was left so
 abbrev pub Saves : Reader → List ℕ → List ℕ → Saved → List ℕ → Type 0
 Saves r memory out a after = writtenOf a after ≡ saveAll r memory out
 

@@ -37,7 +37,7 @@ pub const MOST_PACKETS: u32 = 1000;
 
 // Why a call is refused.
 pub enum Refusal {
-    // Memory of the wrong length, or a handle that breaks a limit.
+    // Memory of the wrong length, a handle that breaks a limit, or an index that leads to no row in use.
     Unfit,
     BadPacketLength,
     UnknownPacket,

@@ -22,7 +22,7 @@ pub struct Board {
 }
 
 pub enum Refusal {
-    // Memory of the wrong length, or more rows than it has.
+    // Memory of the wrong length, more rows than it has, or an index that leads to none in use.
     Unfit,
     // A state or a quote for an id with no row.
     NoRow,
