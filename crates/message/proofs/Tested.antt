@@ -7,7 +7,6 @@ use Prim.Native.Nat.{ℕ, suc, _+_, _≤_, _<_}
 use native.Mathlib.Decide.{ℕ-discrete}
 use native.Mathlib.Omega.{arith}
 use borrow.Author.Tests.{eq-eqb, ne-eqb, le-leb, lt-leb, not-true, not-false}
-use lib.Dec.{eqb, leb}
 use lib.ListN.{length, getD}
 use Rattle.field.specs.Bytes.{part, be}
 use Rattle.field.specs.Limits.{timeInRange, numberInRange, priceInRange}
@@ -15,10 +14,9 @@ use Rattle.field.specs.Text.{within, isText}
 use Rattle.message.specs.Layout.{Value, numberAt, values, keepsAll}
 use Rattle.message.specs.Letters.{Content, unlisted, letters, letterIn, listed, conditions, eventCodes, optionTypes, closings, tradables, variations, states, entryRows, entrySize, endOfReplayRows, endOfReplayOf, shortQuoteRows, longQuoteRows, shortSideRows, longSideRows}
 use Rattle.message.specs.declared.EndOfReplay.{EndOfReplay}
-use Rattle.message.specs.Message.{refused, readFields, readAs, readOf}
+use Rattle.message.specs.Message.{readAs, readOf}
 use Rattle.message.specs.Feed.{Letter, Sized, letterAmong, fieldsRead, letterRead, bytesRead}
 use Rattle.message.specs.Test.{tested, quoteLetters, quoteLength, pricesKeep, entryKeeps}
-use Rattle.message.specs.declared.Refusal.the-variants.{UnknownLetter, WrongLength, BadField}
 use Rattle.message.proofs.Layouts.{read-as-numbers, rowsIn, values-in-part}
 use Rattle.message.proofs.Feeds.{found}
 use Rattle.message.proofs.Table.{room}

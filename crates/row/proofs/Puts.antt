@@ -18,7 +18,6 @@ use Rattle.message.specs.declared.Price.{Price}
 use Rattle.message.specs.declared.Side.{Side}
 use Rattle.message.specs.declared.Side.the-variants.{Bid, Ask}
 use Rattle.message.specs.declared.LongNumbers.{LongNumbers}
-use Rattle.message.specs.declared.Instrument.{Instrument}
 use Rattle.message.specs.declared.Directory.{Directory}
 use Rattle.message.specs.declared.TradingAction.{TradingAction}
 use Rattle.message.specs.declared.Texts.{Texts}

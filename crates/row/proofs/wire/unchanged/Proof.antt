@@ -1,6 +1,5 @@
 -- `row::wire::unchanged` meets its contract.
 -- Assumes nothing.
-use native.Mathlib.Omega.{arith}
 use borrow.Author.Needs.{needs}
 use Rattle.row.proofs.Wired.{fixed-wired}
 use Rattle.row.proofs.wire.unchanged.Statement.{statement}
