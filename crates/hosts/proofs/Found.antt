@@ -17,10 +17,10 @@ module _ (handle : List ℕ) (memory : Memories) (o : HostOurs handle memory) wh
   unfolding hostMayStep
   may = rw (o .handle-is, ours-may (readerIn handle) memory (o .ours))
 
-  -- THEOREM
+  -- THEOREM: the row found is the one that the walk finds, and there is none where the walk finds none
   pub ours-found : (id : ℕ) → findHost handle memory id ≡ walkedNumber (rowFor (headOf handle .board .rows) (memory .table) id)
   ours-found id = find-row handle memory (o .ours .sound .about .index) id may
 
-  -- THEOREM
+  -- THEOREM: the answer is never 20
   pub ours-never-20 : (id : ℕ) → findHost handle memory id ≡ 20 → ⊥
   ours-never-20 id = find-fits handle memory (o .ours .sound .about .index) id may
