@@ -7,3 +7,4 @@ pub mod Same
 pub mod Runs
 pub mod Decimals
 mod Examples
+pub mod Rises
