@@ -1,5 +1,6 @@
 pub mod Below
 pub mod Laid
+pub mod Entries
 pub mod Walk
 pub mod Beside
 pub mod Puts

@@ -7,6 +7,7 @@ ghost use Rattle.image.specs.declared.Verdict.the-variants.{Refused};
 ghost use Rattle.image.specs.Restore.{restoring, restored, restoreOf};
 
 mod facts;
+mod ids;
 mod judge;
 mod pages;
 mod rows;

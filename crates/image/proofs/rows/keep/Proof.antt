@@ -9,7 +9,7 @@ returns : tie.Need-returns
 returns c = search rows-broken
 
 returns-2 : tie.Need-returns-2
-returns-2 c = search rows-kept
+returns-2 c = search (rows-kept, needs)
 
 pub keep-spec : {M : Type 1} → statement M
-keep-spec = tie.close (tie.spec (λ c κs. search needs) returns (λ c. search needs) (λ c κs. search needs) (λ c. search needs) (λ c κs. search needs) returns-2)
+keep-spec = tie.close (tie.spec (λ c κs. search needs) returns (λ c. search needs) (λ c κs. search needs) returns-2)
