@@ -19,6 +19,13 @@
 
 enum { TURNS = 11, MESSAGES = 1000 };
 
+/* Instruments of a case. The first number stays, so that its lines in
+ * docs/PERFORMANCE.md can be compared; the cases wide, save500 and restore500 have the
+ * second. */
+enum { USUAL = 256, WIDE = 500 };
+
+_Static_assert((int)WIDE <= (int)NELQUBAT_MAX_ROWS, "a wide session fits the table");
+
 /* What a case works on; made once, before the turns. */
 static struct {
     struct bytes session;
@@ -73,12 +80,17 @@ static struct session_plan quotes(unsigned instruments)
 
 static void make_quotes(size_t scale)
 {
-    make_work_session(quotes(256), scale, 0);
+    make_work_session(quotes(USUAL), scale, 0);
+}
+
+static void make_quotes_wide(size_t scale)
+{
+    make_work_session(quotes(WIDE), scale, 0);
 }
 
 static void make_quotes_cut(size_t scale)
 {
-    make_work_session(quotes(256), scale, 1460);
+    make_work_session(quotes(USUAL), scale, 1460);
 }
 
 /* No state after the opening, so that every packet is a quote. */
@@ -91,35 +103,35 @@ static void make_quotes_one(size_t scale)
 
 static void make_directories(size_t scale)
 {
-    struct session_plan plan = quotes(256);
+    struct session_plan plan = quotes(USUAL);
     plan.directories = 1;
     plan.quotes = plan.states = 0;
     make_work_session(plan, scale, 0);
 }
 
-/* A full table of new ids in mixed order: the steps of this odd number, which is
- * near the golden section of 2^32, never meet one twice. */
+/* New ids in mixed order: the steps of this odd number, which is near the golden
+ * section of 2^32, never meet one twice. */
 static void make_newcomers(size_t scale)
 {
     struct dice d = dice_seeded(7);
     struct plain_message m;
-    make_room(NELQUBAT_PACKET_BYTES * (NELQUBAT_MAX_ROWS + 1));
+    make_room(NELQUBAT_PACKET_BYTES * (USUAL + 1));
     put_login(&work.session, (const uint8_t *)"NEWCOMERS ", 1);
-    for (uint32_t k = 0; k < NELQUBAT_MAX_ROWS; k++) {
+    for (uint32_t k = 0; k < USUAL; k++) {
         make_message(&d, PLAIN_DIRECTORY, &m);
         m.id = k * UINT32_C(2654435769);
         put_message(&work.session, &m);
     }
     work.piece = work.session.n;
-    work.times = scale / NELQUBAT_MAX_ROWS;
+    work.times = scale / USUAL;
 }
 
 static void read_plain_session(void);
 
-/* A table of 256 rows with quotes, in both readers' memory and as an image. */
-static void make_table(size_t scale)
+/* A table of rows with quotes, in both readers' memory and as an image. */
+static void make_rows(unsigned rows, size_t scale)
 {
-    make_work_session(quotes(256), 2000, 0);
+    make_work_session(quotes(rows), 2000, 0);
     read_plain_session();
     plain_save(&reader, plain_table, sizeof plain_table, work.image, sizeof work.image,
                &work.image_n);
@@ -128,7 +140,17 @@ static void make_table(size_t scale)
     work.units = scale / 50;
 }
 
-/* The same image with its last check wrong: every block's check is made, and
+static void make_table(size_t scale)
+{
+    make_rows(USUAL, scale);
+}
+
+static void make_wide_table(size_t scale)
+{
+    make_rows(WIDE, scale);
+}
+
+/* The usual image with its last check wrong: every block's check is made, and
  * nothing else is done. A unit is one block. */
 static void make_bad_check(size_t scale)
 {
@@ -348,6 +370,10 @@ static const struct task {
      list_library, list_plain},
     {"save", "saving 256 rows", "tables", make_table, save_library, save_plain},
     {"restore", "restoring 256 rows", "tables", make_table, restore_library, restore_plain},
+    {"wide", "quotes, 500 instruments, whole piece", "messages", make_quotes_wide,
+     read_library_session, read_plain_session},
+    {"save500", "saving 500 rows", "tables", make_wide_table, save_library, save_plain},
+    {"restore500", "restoring 500 rows", "tables", make_wide_table, restore_library, restore_plain},
     {"check", "the checks of 65 blocks, the last one wrong", "blocks", make_bad_check, check_library,
      check_plain},
     {"read", "reading messages of every letter", "messages", make_messages, read_library, read_plain},

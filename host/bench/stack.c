@@ -14,6 +14,13 @@
 
 enum { STACK = 1 << 14, PAINT = 0x5A, ROUNDS = 200 };
 
+/* Room for the opening of a full table, in packets of a directory and two states for
+ * each instrument, for so many packets after it, and for a damage. */
+enum {
+    PACKETS = 40,
+    SESSION_ROOM = 1024 + NELQUBAT_MAX_ROWS * 128 + PACKETS * NELQUBAT_PACKET_BYTES + DAMAGE_ROOM
+};
+
 enum call { NONE, START, STEP, RUN, SAVE, RESTORE, READ, WRITE, LINE, FIND, CALLS };
 
 static const char *const names[CALLS] = {
@@ -124,11 +131,11 @@ static void measure_runs(struct dice *d, const struct bytes *s)
 /* Some with a full table, where a search is longest. */
 static void measure_session(struct dice *d, bool damaged)
 {
-    static uint8_t space[1 << 17];
+    static uint8_t space[SESSION_ROOM];
     struct bytes s = {space, 0, sizeof space - DAMAGE_ROOM};
     struct session_plan plan = random_plan(d);
     plan.first = 1;
-    plan.packets %= 40;
+    plan.packets %= PACKETS;
     plan.instruments = dice_chance(d, 10) ? NELQUBAT_MAX_ROWS : 1 + plan.instruments % 16;
     make_session(d, &plan, &s);
     s.room = sizeof space;

@@ -17,8 +17,9 @@ static void add_line(struct dice *d, uint64_t k, struct script *s)
 
 static void add_lines(struct dice *d, struct script *s)
 {
-    static const uint64_t far[] = {256, 257, 258, 1000, UINT64_C(1) << 32, UINT64_MAX};
-    size_t lines = dice_below(d, dice_chance(d, 5) ? 260 : 6);
+    static const uint64_t far[] = {NELQUBAT_MAX_ROWS, NELQUBAT_MAX_ROWS + 1, NELQUBAT_MAX_ROWS + 2,
+                                   2 * NELQUBAT_MAX_ROWS, UINT64_C(1) << 32, UINT64_MAX};
+    size_t lines = dice_below(d, dice_chance(d, 5) ? NELQUBAT_MAX_ROWS + 4 : 6);
     for (uint64_t k = 0; k < lines; k++)
         add_line(d, k, s);
     add_line(d, far[dice_below(d, sizeof far / sizeof *far)], s);
@@ -44,7 +45,7 @@ static void add_save(struct dice *d, enum operation op, struct script *s)
 {
     struct call c = usual_call(op);
     if (dice_chance(d, 40))
-        c.memory_n = (uint32_t)make_length(d, NELQUBAT_BLOCK_BYTES * dice_between(d, 1, 65));
+        c.memory_n = (uint32_t)make_length(d, NELQUBAT_BLOCK_BYTES * dice_between(d, 1, NELQUBAT_MAX_BLOCKS));
     script_add(s, c, NULL, 0);
 }
 
@@ -326,6 +327,11 @@ static void add_repeated_id(struct dice *d, const struct plain_reader *r, struct
     add_find(d, nelqubat_row_id(row), s);
 }
 
+static size_t blocks_for(uint32_t rows)
+{
+    return 1 + (rows + PLAIN_BLOCK_ROWS - 1) / PLAIN_BLOCK_ROWS;
+}
+
 static void add_handle_call(struct dice *d, const struct plain_reader *r, struct script *s)
 {
     static const enum operation ops[] = {CALL_STEP, CALL_FEED, CALL_FEED, CALL_SAVE, CALL_LINE, CALL_LINE,
@@ -338,12 +344,11 @@ static void add_handle_call(struct dice *d, const struct plain_reader *r, struct
     if (c.op == CALL_RUN || c.op == CALL_TURNS)
         c.k = make_ceiling(d);
     if (c.op == CALL_LINE)
-        c.k = dice_chance(d, 80) ? dice_below(d, (uint64_t)r->rows % 300 + 4) : dice_next(d);
+        c.k = dice_chance(d, 80) ? dice_below(d, (uint64_t)r->rows % (NELQUBAT_MAX_ROWS + 1) + 4) : dice_next(d);
     if (c.op == CALL_FIND)
         c.k = vary_id(d, nelqubat_row_id(pick_row(d, r, s->table)));
     if (c.op == CALL_SAVE || c.op == CALL_RESUME)
-        c.memory_n = (uint32_t)make_length(d, NELQUBAT_BLOCK_BYTES *
-                                                  (1 + (r->rows % 257 + 3) / 4));
+        c.memory_n = (uint32_t)make_length(d, NELQUBAT_BLOCK_BYTES * blocks_for(r->rows % (NELQUBAT_MAX_ROWS + 1)));
     if (dice_chance(d, 15))
         spoil_length(d, &c);
     script_add(s, c, piece, n);
@@ -527,6 +532,8 @@ static void make_any_image(struct dice *d, bool damaged, struct bytes *image)
         make_any_blocks(d, image);
     } else if (dice_chance(d, 30)) {
         edge_image(d, image);
+    } else if (dice_chance(d, 20)) {
+        damage_image(d, (enum image_damage)dice_between(d, IMAGE_VERSION, IMAGE_NAMED), image);
     } else {
         damage_image(d, (enum image_damage)dice_below(d, IMAGE_DAMAGES), image);
     }
@@ -535,12 +542,12 @@ static void make_any_image(struct dice *d, bool damaged, struct bytes *image)
 /* Looks for the id in one of the image's places for rows. */
 static void add_image_find(struct dice *d, const struct bytes *image, struct script *s)
 {
-    enum { BLOCK_ROWS = 14, ROWS_EACH = 4 };
+    enum { FIRST_ROW = 14 };
     size_t blocks = image->n / NELQUBAT_BLOCK_BYTES, at;
     if (blocks < 2)
         return;
-    at = dice_between(d, 1, blocks - 1) * NELQUBAT_BLOCK_BYTES + BLOCK_ROWS;
-    at += dice_below(d, ROWS_EACH) * NELQUBAT_ROW_BYTES;
+    at = dice_between(d, 1, blocks - 1) * NELQUBAT_BLOCK_BYTES + FIRST_ROW;
+    at += dice_below(d, PLAIN_BLOCK_ROWS) * NELQUBAT_ROW_BYTES;
     add_find(d, (uint32_t)nelqubat_get(image->at + at, 4), s);
 }
 
@@ -561,7 +568,7 @@ void make_image_case(struct dice *d, bool damaged, struct script *s, struct tall
     else if (dice_chance(d, 8))
         restore.index_n = (uint32_t)make_length(d, restore.index_n);
     script_add(s, restore, image.at, image.n);
-    if (dice_chance(d, 50))
+    if (dice_chance(d, 70))
         add_save(d, dice_chance(d, 50) ? CALL_SAVE : CALL_RESUME, s);
     if (dice_chance(d, 20))
         add_lines(d, s);

@@ -18,7 +18,7 @@
 #include <unistd.h>
 
 /* A round takes some hundredths of a second, even emulated. Within 300 rounds
- * the rarest answer came five times or more, from each of thirteen seeds. */
+ * the rarest answer came four times or more, from each of thirteen seeds. */
 enum { DEFAULT_SEED = 1, DEFAULT_ROUNDS = 3000, ROUND_SECONDS = 120, ROUNDS_FOR_ALL = 300 };
 
 static struct pair pair;
@@ -66,7 +66,7 @@ static bool run_cases(struct dice *d, case_maker *make, bool damaged, unsigned t
     return true;
 }
 
-/* One round: 48 damaged inputs and some eight hundred packets. */
+/* One round: 48 damaged inputs and nearly a thousand packets. */
 static bool run_round(uint64_t seed)
 {
     struct dice d = dice_seeded(seed);

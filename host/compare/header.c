@@ -55,12 +55,24 @@ static uint32_t restore(size_t n)
     return nelqubat_restore(handle, sizeof handle, table, sizeof table, id_index, sizeof id_index, image, n);
 }
 
-/* Sizes: those that the library states, and those of plain.h. */
+/* Sizes: those of the documents, those that the library states, and those of plain.h. */
+
+static void test_written_sizes(void)
+{
+    EQUAL(NELQUBAT_VERSION, 5);
+    EQUAL(NELQUBAT_MAX_ROWS, 500);
+    EQUAL(NELQUBAT_ROW_BYTES, 124);
+    EQUAL(NELQUBAT_TABLE_BYTES, 62000);
+    EQUAL(NELQUBAT_INDEX_BYTES, 1000);
+    EQUAL(NELQUBAT_BLOCK_BYTES, 512);
+    EQUAL(NELQUBAT_BLOCK_ROWS, 4);
+    EQUAL(NELQUBAT_MAX_BLOCKS, 126);
+    EQUAL(NELQUBAT_IMAGE_BYTES, 64512);
+}
 
 static void test_sizes(void)
 {
     EQUAL(nelqubat_is_version(), 1);
-    EQUAL(NELQUBAT_VERSION, 4);
     EQUAL(NELQUBAT_HANDLE_BYTES, nelqubat_handle_size());
     EQUAL(NELQUBAT_TABLE_BYTES, nelqubat_table_size());
     EQUAL(NELQUBAT_INDEX_BYTES, nelqubat_index_size());
@@ -70,6 +82,7 @@ static void test_sizes(void)
     EQUAL(NELQUBAT_TABLE_BYTES, PLAIN_TABLE_BYTES);
     EQUAL(NELQUBAT_INDEX_BYTES, PLAIN_INDEX_BYTES);
     EQUAL(NELQUBAT_BLOCK_BYTES, PLAIN_BLOCK_BYTES);
+    EQUAL(NELQUBAT_MAX_BLOCKS, PLAIN_MAX_BLOCKS);
     EQUAL(NELQUBAT_IMAGE_BYTES, PLAIN_IMAGE_BYTES);
     EQUAL(NELQUBAT_MESSAGE_BYTES, PLAIN_MESSAGE_BYTES);
     EQUAL(NELQUBAT_PACKET_BYTES, PLAIN_PACKET_BYTES);
@@ -577,17 +590,36 @@ static void test_packet_refusals(void)
                             "CIBM          NYS                ")), NELQUBAT_REFUSED_FIXED_FIELD, 15, "fixed field");
 }
 
+/* The table as it is, saved: as many blocks as its rows need, and in the first and the
+ * last of them the version that fits the rows. */
+static void saved_by_rows(size_t rows)
+{
+    size_t blocks = 1 + (rows + NELQUBAT_BLOCK_ROWS - 1) / NELQUBAT_BLOCK_ROWS;
+    size_t n = blocks * NELQUBAT_BLOCK_BYTES;
+    unsigned version = rows <= 256 ? 1 : 2;
+    uint32_t answer = nelqubat_save(handle, sizeof handle, table, sizeof table, image, n);
+    EQUAL(nelqubat_refusal(answer), NELQUBAT_DONE);
+    EQUAL(nelqubat_written(answer), n);
+    EQUAL(nelqubat_get(image + 4, 2), version);
+    EQUAL(nelqubat_get(image + n - NELQUBAT_BLOCK_BYTES + 4, 2), version);
+}
+
 static void test_full_table(void)
 {
     uint8_t packet[] = DIRECTORY;
-    uint32_t answer = 0;
     packets(LITERAL(LOGIN));
-    for (size_t k = 0; k <= NELQUBAT_MAX_ROWS; k++) {
+    for (size_t k = 0; k < NELQUBAT_MAX_ROWS; k++) {
+        saved_by_rows(k);
         set_number(packet + 14, 4, 100 + k);
-        EQUAL(nelqubat_refusal(answer), NELQUBAT_DONE);
-        answer = step(packet, sizeof packet - 1);
+        EQUAL(nelqubat_refusal(step(packet, sizeof packet - 1)), NELQUBAT_DONE);
+        EQUAL(nelqubat_handle_rows(handle), k + 1);
     }
-    refused(nelqubat_refusal(answer), NELQUBAT_REFUSED_FULL, 16, "full");
+    set_number(packet + 14, 4, 99);
+    refused(nelqubat_refusal(step(packet, sizeof packet - 1)), NELQUBAT_REFUSED_FULL, 16, "full");
+    EQUAL(nelqubat_handle_rows(handle), NELQUBAT_MAX_ROWS);
+    saved_by_rows(NELQUBAT_MAX_ROWS);
+    EQUAL(restore(NELQUBAT_IMAGE_BYTES), NELQUBAT_DONE);
+    EQUAL(restore(NELQUBAT_IMAGE_BYTES + NELQUBAT_BLOCK_BYTES), NELQUBAT_REFUSED_IMAGE_LENGTH);
 }
 
 static void test_call_refusals(void)
@@ -606,6 +638,10 @@ static void test_call_refusals(void)
     seal_image(&sealed);
     refused(nelqubat_refusal(restore(sealed.n)), NELQUBAT_REFUSED_HEAD, 23, "head");
     image[1] = 0;
+    image[5] = 2; /* the version of more than 256 rows, and there are none */
+    seal_image(&sealed);
+    refused(nelqubat_refusal(restore(sealed.n)), NELQUBAT_REFUSED_HEAD, 23, "head");
+    image[5] = 1;
     seal_image(&sealed);
     refused(nelqubat_refusal(restore(sealed.n)), NELQUBAT_REFUSED_CONTENTS, 24, "contents");
     answer = nelqubat_save(handle, sizeof handle, table, sizeof table, image, 511);
@@ -664,6 +700,7 @@ static void test_names(void)
 
 int main(void)
 {
+    test_written_sizes();
     test_sizes();
     test_numbers();
     test_records();

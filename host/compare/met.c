@@ -1,5 +1,6 @@
 #include "met.h"
 
+#include "generate.h"
 #include "met_index.h"
 #include "oracle.h"
 
@@ -49,7 +50,7 @@ static const struct {
 
 static const char *const index_names[MET_INDEXES] = {"true", "past", "zeros", "twice", "order", "unused"};
 
-/* With 256 rows no place is out of use. */
+/* With the most rows no place is out of use. */
 static const struct {
     const char *name;
     bool can[MET_INDEXES];
@@ -69,7 +70,7 @@ static const struct {
 static const char *const astray_names[MET_ASTRAYS] = {
     "m", "H", "quote", "held", "run", "run-held", "run-later", "find"};
 
-static const char *const entry_names[MET_ENTRIES] = {"alone", "first", "between", "last", "256th"};
+static const char *const entry_names[MET_ENTRIES] = {"alone", "first", "between", "last", "257th", "last-row"};
 
 /* The calls that are lent an index. */
 static const char *const lent_names[MET_LENT] = {
@@ -78,6 +79,18 @@ static const char *const lent_names[MET_LENT] = {
 static const char *const length_names[MET_LENGTHS] = {"empty", "short", "long"};
 
 static const char *const built_names[MET_BUILT] = {"over-zeros", "over-others"};
+
+static const char *const image_names[MET_IMAGES] = {"version-1", "version-2", "256-rows", "257-rows", "most-rows"};
+
+static const char *const version_names[MET_VERSIONS] = {"0", "1", "2", "3", "other"};
+
+static const char *const versions_in_names[MET_VERSIONS_IN] = {"all-blocks", "some-blocks"};
+
+static const char *const named_names[MET_NAMED] = {"23", "24", "24-over"};
+
+static const char *const block_names[MET_BLOCKS] = {"65", "66", "most", "21-over"};
+
+static const char *const full_names[MET_FULLS] = {"step", "run"};
 
 static const char *const state_names[MET_STATES] = {
     "none", "B", "S", "H", "T", "I", "O", "R", "X", "other"};
@@ -297,6 +310,102 @@ static void count_line(struct met *m, uint64_t k, uint32_t answer, const struct 
         count_words(m, plain->small + GUARD_BYTES, nelqubat_written(answer));
 }
 
+/* Images. */
+
+enum { AT_VERSION = 4, AT_ROWS = 26, BLOCKS_OF_1 = 1 + PLAIN_ROWS_OF_VERSION_1 / PLAIN_BLOCK_ROWS };
+
+static uint64_t version_at(const uint8_t *block)
+{
+    return nelqubat_get(block + AT_VERSION, 2);
+}
+
+static uint64_t named_rows(const uint8_t *image)
+{
+    return nelqubat_get(image + AT_ROWS, 2);
+}
+
+static uint64_t version_by_rows(const uint8_t *image)
+{
+    return named_rows(image) <= PLAIN_ROWS_OF_VERSION_1 ? 1 : 2;
+}
+
+static uint64_t version_by_blocks(size_t n)
+{
+    return n / NELQUBAT_BLOCK_BYTES <= BLOCKS_OF_1 ? 1 : 2;
+}
+
+/* An image that was saved or restored. */
+static void count_image(unsigned long *counts, const uint8_t *image)
+{
+    uint64_t rows_used = named_rows(image);
+    counts[version_at(image) == 1 ? MET_VERSION_1 : MET_VERSION_2]++;
+    counts[MET_LAST_OF_1] += rows_used == PLAIN_ROWS_OF_VERSION_1;
+    counts[MET_FIRST_OF_2] += rows_used == PLAIN_ROWS_OF_VERSION_1 + 1;
+    counts[MET_MOST_ROWS] += rows_used == NELQUBAT_MAX_ROWS;
+}
+
+/* Makes the versions right, and tells whether 23 is not given then. */
+static bool is_mended(const uint8_t *image, size_t n)
+{
+    static uint8_t mended[NELQUBAT_IMAGE_BYTES], table[NELQUBAT_TABLE_BYTES], index[NELQUBAT_INDEX_BYTES];
+    struct bytes sealed = {mended, n, sizeof mended};
+    uint8_t handle[NELQUBAT_HANDLE_BYTES];
+    memcpy(mended, image, n);
+    for (size_t at = 0; at < n; at += NELQUBAT_BLOCK_BYTES)
+        nelqubat_set(mended + at + AT_VERSION, 2, version_by_rows(image));
+    seal_image(&sealed);
+    return oracle_restore(handle, sizeof handle, table, sizeof table, index, sizeof index, mended, n) !=
+           NELQUBAT_REFUSED_HEAD;
+}
+
+/* An image that was refused with 23: which version stands where another should, if
+ * all else in the heads is right. */
+static void count_version(struct met *m, const uint8_t *image, size_t n)
+{
+    uint64_t found = version_by_rows(image);
+    size_t wrong = 0, by_blocks = 0, blocks = n / NELQUBAT_BLOCK_BYTES;
+    for (size_t at = 0; at < n; at += NELQUBAT_BLOCK_BYTES) {
+        uint64_t version = version_at(image + at);
+        wrong += version != version_by_rows(image);
+        by_blocks += version == version_by_blocks(n);
+        if (version != version_by_rows(image))
+            found = version;
+    }
+    if (wrong == 0 || !is_mended(image, n))
+        return;
+    m->versions[found < MET_VERSIONS - 1 ? found : MET_VERSIONS - 1]++;
+    m->versions_in[wrong == blocks ? 0 : 1]++;
+    m->named[0] += wrong == blocks && by_blocks == blocks;
+}
+
+static void count_restored(struct met *m, unsigned refusal, const uint8_t *image, size_t n)
+{
+    size_t blocks = n / NELQUBAT_BLOCK_BYTES;
+    if (refusal == NELQUBAT_REFUSED_IMAGE_LENGTH)
+        m->blocks[3] += n == NELQUBAT_IMAGE_BYTES + NELQUBAT_BLOCK_BYTES;
+    if (refusal == NELQUBAT_REFUSED_HEAD)
+        count_version(m, image, n);
+    if (refusal == NELQUBAT_REFUSED_CONTENTS) {
+        m->named[1] += version_by_rows(image) != version_by_blocks(n);
+        m->named[2] += named_rows(image) > NELQUBAT_MAX_ROWS;
+    }
+    if (refusal != NELQUBAT_DONE)
+        return;
+    count_image(m->restored, image);
+    m->blocks[0] += blocks == BLOCKS_OF_1;
+    m->blocks[1] += blocks == BLOCKS_OF_1 + 1;
+    m->blocks[2] += blocks == NELQUBAT_MAX_BLOCKS;
+}
+
+/* 16 by a packet of this call, with a table that is full. */
+static void count_full(struct met *m, enum met_row row, const struct world *plain)
+{
+    if (nelqubat_handle_rows(plain->handle + GUARD_BYTES) != NELQUBAT_MAX_ROWS)
+        return;
+    m->full[0] += row == MET_STEP;
+    m->full[1] += row == MET_RUN;
+}
+
 /* What a call that is done answers: a kind, a letter, a sort of line or row. */
 static void count_done(struct met *m, const struct call *c, uint32_t answer,
                        const struct world *plain, const uint8_t *input)
@@ -314,6 +423,8 @@ static void count_done(struct met *m, const struct call *c, uint32_t answer,
         count_line(m, c->k, answer, plain);
     if (c->op == CALL_FIND)
         m->finds[find_of((uint32_t)c->k, answer, plain)]++;
+    if (c->op == CALL_SAVE)
+        count_image(m->saved, plain->image + GUARD_BYTES);
 }
 
 static unsigned finish_of(uint32_t ceiling, uint64_t answer)
@@ -366,6 +477,10 @@ void met_count(struct met *m, const struct call *c, uint64_t answer,
     met_count_index(m, c, answer, before, plain, input);
     if (refusal < MET_REFUSALS)
         m->refusals[row_of(c, answer)][refusal]++;
+    if (refusal == NELQUBAT_REFUSED_FULL)
+        count_full(m, row_of(c, answer), plain);
+    if (c->op == CALL_RESTORE)
+        count_restored(m, refusal, input, c->input_n);
     if (c->op == CALL_RUN)
         count_run(m, c, answer, before->held);
     else if (refusal == 0)
@@ -501,6 +616,17 @@ static bool report_index(const struct met *m, bool all)
     return report_names("built", built_names, m->built, MET_BUILT, all) && good;
 }
 
+static bool report_images(const struct met *m, bool all)
+{
+    bool good = report_names("saved", image_names, m->saved, MET_IMAGES, all);
+    good &= report_names("restored", image_names, m->restored, MET_IMAGES, all);
+    good &= report_names("blocks", block_names, m->blocks, MET_BLOCKS, all);
+    good &= report_names("23 version", version_names, m->versions, MET_VERSIONS, all);
+    good &= report_names("23 version in", versions_in_names, m->versions_in, MET_VERSIONS_IN, all);
+    good &= report_names("rows named", named_names, m->named, MET_NAMED, all);
+    return report_names("full", full_names, m->full, MET_FULLS, all) && good;
+}
+
 bool met_report(const struct met *m, bool all)
 {
     bool good = true;
@@ -522,5 +648,6 @@ bool met_report(const struct met *m, bool all)
     for (size_t bid = 0; bid < MET_WORDS; bid++)
         good &= report_names(bid_names[bid], ask_names, m->words[bid], MET_WORDS, all);
     good &= report_names("find", find_names, m->finds, MET_FINDS, all);
-    return report_index(m, all) && good;
+    good &= report_index(m, all);
+    return report_images(m, all) && good;
 }

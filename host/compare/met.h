@@ -1,7 +1,8 @@
 /* How often each call met each refusal and each kind of answer and message, quotes
  * each state of a row and each sort of price, lines of rows each sort of side, runs
- * each way to stop, and searches each sort of index: a comparison that never met
- * one says nothing of it. */
+ * each way to stop, searches each sort of index, and images each version and the
+ * counts of rows and blocks at its ends: a comparison that never met one says nothing
+ * of it. */
 #ifndef MET_H
 #define MET_H
 

@@ -19,29 +19,22 @@ static bool is_zero(const uint8_t *bytes, size_t n)
     return true;
 }
 
-static bool names_row(const uint8_t *index, size_t places, size_t row)
-{
-    for (size_t place = 0; place < places; place++)
-        if (row_named(index, place) == row)
-            return true;
-    return false;
-}
-
 /* The first fault among the places in use, or that there is none. */
 static enum met_index fault_of(const uint8_t *table, const uint8_t *index, size_t rows)
 {
-    bool is_past = false, is_twice = false, is_unsorted = false;
+    bool named[NELQUBAT_MAX_ROWS] = {false}, is_twice = false, is_unsorted = false;
     uint32_t before = 0;
-    for (size_t place = 0; place < rows && !is_past; place++) {
+    for (size_t place = 0; place < rows; place++) {
         size_t row = row_named(index, place);
-        uint32_t id = row < rows ? nelqubat_row_id(nelqubat_row(table, row)) : 0;
-        is_past = row >= rows;
-        is_twice |= names_row(index, place, row);
+        uint32_t id;
+        if (row >= rows)
+            return MET_PAST;
+        id = nelqubat_row_id(nelqubat_row(table, row));
+        is_twice |= named[row];
         is_unsorted |= id < before;
+        named[row] = true;
         before = id;
     }
-    if (is_past)
-        return MET_PAST;
     if (is_twice)
         return is_zero(index, 2 * rows) ? MET_ZEROS : MET_TWICE;
     return is_unsorted ? MET_ORDER : MET_TRUE;
@@ -103,7 +96,8 @@ static void count_entered(struct met *m, const struct world *plain)
     while (place < rows - 1 && row_named(plain->index + GUARD_BYTES, place) != rows - 1)
         place++;
     m->entered[rows == 1 ? 0 : place == 0 ? 1 : place < rows - 1 ? 2 : 3]++;
-    m->entered[4] += rows == NELQUBAT_MAX_ROWS;
+    m->entered[4] += rows == PLAIN_ROWS_OF_VERSION_1 + 1;
+    m->entered[5] += rows == NELQUBAT_MAX_ROWS;
 }
 
 /* A message that a step told, or 13 to 16 by one whose packet it took. */

@@ -30,7 +30,7 @@ void oracle_pack_handle(const struct plain_reader *r, uint8_t *handle)
  * stays too large. */
 static uint32_t clamp(uint64_t v)
 {
-    return v > 1000 ? 1000 : (uint32_t)v;
+    return v > UINT32_MAX ? UINT32_MAX : (uint32_t)v;
 }
 
 /* A reader from a handle's bytes; false if they are no handle. */

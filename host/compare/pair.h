@@ -101,7 +101,20 @@ enum met_astray {
 };
 
 /* Where a new id was entered, the calls that are lent an index, and wrong lengths. */
-enum { MET_ENTRIES = 5, MET_LENT = 5, MET_LENGTHS = 3, MET_BUILT = 2 };
+enum { MET_ENTRIES = 6, MET_LENT = 5, MET_LENGTHS = 3, MET_BUILT = 2 };
+
+/* An image that was saved or restored: its version, and whether it has the most rows
+ * of version 1, the least of version 2, or the most of all. */
+enum met_image { MET_VERSION_1, MET_VERSION_2, MET_LAST_OF_1, MET_FIRST_OF_2, MET_MOST_ROWS, MET_IMAGES };
+
+/* 23 for the version alone: 0 to 3 or another, for too few or too many rows; in all
+ * blocks or in some; and how the rows that are named differ from those that the blocks
+ * have room for. */
+enum { MET_VERSIONS = 5, MET_VERSIONS_IN = 2, MET_NAMED = 3 };
+
+/* Counts of blocks: the last of version 1, the first of version 2, the most, and one
+ * more; and 16 by a step and by a run, with the most rows in use. */
+enum { MET_BLOCKS = 4, MET_FULLS = 2 };
 
 /* What a call found: bytes held, rows in use, the index, and whether it was zeros. */
 struct met_before {
@@ -126,9 +139,15 @@ struct met {
     unsigned long words[MET_WORDS][MET_WORDS];           /* of a row's line, for bid and ask */
     unsigned long searches[MET_SEARCHES][MET_INDEXES];
     unsigned long astray[MET_ASTRAYS];
-    unsigned long entered[MET_ENTRIES];                  /* alone, first, between, last; the 256th */
+    unsigned long entered[MET_ENTRIES];                  /* alone, first, between, last; the first of version 2, the last of all */
     unsigned long lengths[MET_LENT][MET_LENGTHS];        /* of an index that is wrong, all else right */
     unsigned long built[MET_BUILT];                      /* by a restore, over zeros and over others */
+    unsigned long saved[MET_IMAGES], restored[MET_IMAGES];
+    unsigned long versions[MET_VERSIONS];                /* that alone were refused with 23 */
+    unsigned long versions_in[MET_VERSIONS_IN];          /* all blocks, some */
+    unsigned long named[MET_NAMED];                      /* 23, 24, and 24 for more than any table has */
+    unsigned long blocks[MET_BLOCKS];                    /* restored, or one too many */
+    unsigned long full[MET_FULLS];
 };
 
 struct pair {

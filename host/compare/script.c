@@ -240,7 +240,7 @@ void script_shrink(struct script *s, struct script *spare, struct pair *p)
 
 /* Files: a line for each part, bytes in hexadecimal, `-` for none. */
 
-static const char title[] = "nelqubat case 2";
+static const char title[] = "nelqubat case 3";
 
 static void write_hex(FILE *f, const uint8_t *bytes, size_t n)
 {

@@ -17,8 +17,11 @@ enum {
     TEXT_ROOM = 1 << 18,
     LOG_ROOM = 1 << 20,
     PACKETS = 64,
-    NAME_ROOM = 32
+    NAME_ROOM = 32,
+    RING = 256            /* of numbers, where the text names no other */
 };
+
+_Static_assert(ROOM > NELQUBAT_IMAGE_BYTES + NELQUBAT_BLOCK_BYTES, "an image that is too long has room");
 
 struct memory {
     size_t n;
@@ -30,6 +33,11 @@ enum place { HANDLE, TABLE, INDEX, READER, EVENT = READER, RECORD, IMAGE, OUT, S
 
 static const char *const memory_names[NAMED] = {
     "handle", "table", "index", "event", "record", "image", "out", "spare"};
+
+/* What the header says that they have; 0 where a case says it. */
+static const size_t memory_sizes[NAMED] = {
+    [HANDLE] = NELQUBAT_HANDLE_BYTES, [TABLE] = NELQUBAT_TABLE_BYTES, [INDEX] = NELQUBAT_INDEX_BYTES,
+    [EVENT] = NELQUBAT_RECORD_BYTES, [RECORD] = NELQUBAT_RECORD_BYTES};
 
 static const struct calls *calls;
 static struct memory memories[PLACES];
@@ -50,6 +58,7 @@ static size_t came_n;
 static bool broken;     /* the line cannot be run */
 static bool checked;    /* the bytes given had the item `checked` */
 static size_t base;     /* where the packet or memory that was named last begins */
+static size_t full;     /* what the memory has that the bytes are for, or 0 */
 
 /* ---- words */
 
@@ -215,32 +224,58 @@ static bool lay_plain(const char *s)
     return true;
 }
 
-/* FROM+STEP*N: so many numbers of two bytes, in a ring of 256. */
-static bool lay_ring(const char *s)
+/* A pair and a star: as often as the memory has room for it. */
+static bool lay_rest(const char *s)
 {
-    size_t number, step, count;
-    char behind;
-    if (sscanf(s, "%zu+%zu*%zu%c", &number, &step, &count, &behind) != 3)
+    uint8_t byte = 0;
+    if (strlen(s) != 3 || !is_pair(s, &byte) || full == 0)
         return false;
-    for (; count > 0; count--, number += step)
-        append((const uint8_t[]){0, (uint8_t)number}, 2);
+    while (memories[GIVEN].n < full)
+        append(&byte, 1);
     return true;
 }
 
-/* PLACE:BYTES puts bytes in, counted from the base. */
+/* Nothing, or %R for a ring of R numbers. */
+static bool is_ring(const char *s, size_t *ring)
+{
+    *ring = RING;
+    return *s == 0 || (*s == '%' && is_number(s + 1, ring) && *ring != 0);
+}
+
+/* FROM+STEP*N: so many numbers of two bytes, in a ring. */
+static bool lay_ring(const char *s)
+{
+    size_t number, step, count, ring;
+    int end = 0;
+    if (sscanf(s, "%zu+%zu*%zu%n", &number, &step, &count, &end) != 3 || !is_ring(s + end, &ring))
+        return false;
+    for (; count > 0; count--, number += step) {
+        uint8_t two[2];
+        nelqubat_set(two, 2, number % ring);
+        append(two, 2);
+    }
+    return true;
+}
+
+/* PLACE:BYTES puts bytes in, counted from the base; PLACE::BYTES into each block. */
 static bool lay_edit(char *s)
 {
     struct memory *given = &memories[GIVEN];
     size_t at, n = given->n;
     char *colon = strchr(s, ':');
+    bool is_each = colon[1] == ':';
     *colon = 0;
-    if (!is_number(s, &at) || !lay_plain(colon + 1))
+    if (!is_number(s, &at) || !lay_plain(colon + (is_each ? 2 : 1)))
         return false;
     size_t more = given->n - n;
     given->n = n;
-    if (base + at + more > n)
-        return false;
-    memmove(given->bytes + base + at, given->bytes + n, more);
+    at += base;
+    do {
+        if (at + more > n)
+            return false;
+        memcpy(given->bytes + at, given->bytes + n, more);
+        at += NELQUBAT_BLOCK_BYTES;
+    } while (is_each && at < n);
     return true;
 }
 
@@ -311,6 +346,8 @@ static bool lay_item(char *s)
         return lay_drop(s);
     if (strchr(s, '+'))
         return lay_ring(s);
+    if (s[strlen(s) - 1] == '*')
+        return lay_rest(s);
     if (strcmp(s, "checked") == 0)
         return lay_checked();
     return lay_named(s);
@@ -325,6 +362,14 @@ static void lay(char *line)
     for (char *s = next_word(&line); *s; s = next_word(&line))
         if (!lay_item(s))
             fault("? bytes");
+}
+
+/* The same, for a memory with a size of its own. */
+static void lay_for(enum place place, char *line)
+{
+    full = memory_sizes[place];
+    lay(line);
+    full = 0;
 }
 
 /* ---- calls */
@@ -526,26 +571,72 @@ static enum place next_memory(char **line)
 static void do_set(char *line)
 {
     enum place place = next_memory(&line);
-    lay(line);
+    lay_for(place, line);
     memories[place] = memories[GIVEN];
     if (place < READER)
         kept[place] = memories[GIVEN];
 }
 
+/* So many packets of one kind, each with its own number in it. */
+struct series {
+    size_t count, at, number, step, ring;
+};
+
+static struct series next_series(char **line)
+{
+    struct series s = {.ring = RING};
+    s.count = next_number(line);
+    s.at = next_number(line);
+    s.number = next_number(line);
+    char *word = next_word(line), *sign = word + strcspn(word, "%");
+    if (!is_ring(sign, &s.ring)) {
+        fault("? ring");
+        s.ring = RING;
+    }
+    *sign = 0;
+    if (!is_number(word, &s.step))
+        fault("? number");
+    lay(*line);
+    if (s.at + 4 > memories[GIVEN].n) {
+        fault("? place");
+        s.count = 0;
+    }
+    return s;
+}
+
+/* The next number into the packet that is given; false when there were so many. */
+static bool next_packet(struct series *s)
+{
+    if (s->count == 0)
+        return false;
+    nelqubat_set(memories[GIVEN].bytes + s->at, 4, s->number % s->ring);
+    s->count--;
+    s->number += s->step;
+    return true;
+}
+
 static void do_fill(char *line)
 {
-    size_t count = next_number(&line), at = next_number(&line);
-    size_t number = next_number(&line), step = next_number(&line);
-    lay(line);
-    if (at + 4 > memories[GIVEN].n) {
-        fault("? place");
-        return;
-    }
-    for (; count > 0; count--, number += step) {
-        nelqubat_set(memories[GIVEN].bytes + at, 4, number % 256);
+    struct series s = next_series(&line);
+    while (next_packet(&s))
         feed_given(ROOM);
-    }
     check_taken();
+}
+
+static void do_copies(char *line)
+{
+    struct series s = next_series(&line);
+    struct memory *spare = &memories[SPARE];
+    const struct memory *given = &memories[GIVEN];
+    spare->n = 0;
+    while (next_packet(&s)) {
+        if (given->n > ROOM - spare->n) {
+            fault("? room");
+            return;
+        }
+        memcpy(spare->bytes + spare->n, given->bytes, given->n);
+        spare->n += given->n;
+    }
 }
 
 static void do_packet(char *line)
@@ -631,7 +722,7 @@ static void do_left(char *line)
 static void do_same(char *line)
 {
     enum place place = next_memory(&line);
-    lay(line);
+    lay_for(place, line);
     tell_same(same(&memories[place], &memories[GIVEN]));
 }
 
@@ -931,7 +1022,7 @@ static const struct command {
     const char *word;
     void (*run)(char *line);
 } commands[] = {
-    {"packet", do_packet}, {"begin", do_begin}, {"set", do_set}, {"fill", do_fill},
+    {"packet", do_packet}, {"begin", do_begin}, {"set", do_set}, {"fill", do_fill}, {"copies", do_copies},
     {"start", do_start}, {"step", do_step}, {"run", do_run}, {"feed", do_feed}, {"restore", do_restore},
     {"read", do_read}, {"write", do_write}, {"save", do_save},
     {"left", do_left}, {"same", do_same}, {"show", do_show}, {"number", do_number},

@@ -14,7 +14,7 @@ enum { BY_RUNS = 4 };
 
 static uint8_t session[1 << 16];
 static size_t session_n;
-static uint8_t input[1 << 16];
+static uint8_t input[sizeof session + PLAIN_IMAGE_BYTES + PLAIN_BLOCK_BYTES];
 static size_t input_n;
 static const char *folder;
 static unsigned files;
@@ -163,6 +163,44 @@ static bool add_made(void)
     return true;
 }
 
+/* A table of so many rows, saved. */
+static void add_image(uint32_t rows)
+{
+    static uint8_t table[PLAIN_TABLE_BYTES];
+    struct dice d = dice_seeded(rows);
+    struct session_plan plan = usual_plan();
+    struct plain_reader r;
+    size_t n;
+    plan.first = 2;
+    r = reader_for_plan(&plan);
+    r.rows = rows;
+    for (uint32_t k = 0; k < rows; k++)
+        make_row(&d, k, table + k * (size_t)PLAIN_ROW_BYTES);
+    plain_save(&r, table, sizeof table, input + input_n, sizeof input - input_n, &n);
+    input_n += n;
+}
+
+/* Images about a change of version and of a full table, true and with versions, blocks
+ * or rows that do not fit. */
+static bool add_images(void)
+{
+    static const uint32_t rows[] = {PLAIN_ROWS_OF_VERSION_1, PLAIN_ROWS_OF_VERSION_1 + 1, PLAIN_MAX_ROWS};
+    for (size_t i = 0; i < sizeof rows / sizeof *rows; i++)
+        for (unsigned how = 0; how < 16; how++) {
+            struct dice d = dice_seeded(how);
+            struct bytes image = {input + 2, 0, sizeof input - 2};
+            begin((uint8_t)(1 + how % 2 * BY_RUNS), 32 + 4);
+            add_image(rows[i]);
+            image.n = input_n - 2;
+            if (how != 0)
+                damage_image(&d, (enum image_damage)dice_between(&d, IMAGE_VERSION, IMAGE_NAMED), &image);
+            input_n = image.n + 2;
+            if (!finish())
+                return false;
+        }
+    return true;
+}
+
 static bool read_session(const char *path)
 {
     long n = read_file("corpus", path, session, sizeof session);
@@ -181,5 +219,5 @@ int main(int argc, char **argv)
     for (int i = 2; i < argc; i++)
         if (!read_session(argv[i]) || !add_sessions() || !add_steps(reader_for_plan(&fresh)))
             return 1;
-    return add_made() ? 0 : 1;
+    return add_made() && add_images() ? 0 : 1;
 }

@@ -113,7 +113,7 @@ static void do_image(struct rest input, unsigned how)
 {
     static uint8_t image[NELQUBAT_IMAGE_BYTES + 2 * NELQUBAT_BLOCK_BYTES];
     size_t blocks = input.n > 4 ? input.at[3] + 256u * input.at[2] : 0;
-    struct rest part = take(&input, blocks % 67 * NELQUBAT_BLOCK_BYTES + (how & 16 ? 1 : 0));
+    struct rest part = take(&input, blocks % (NELQUBAT_MAX_BLOCKS + 2) * NELQUBAT_BLOCK_BYTES + (how & 16 ? 1 : 0));
     struct bytes sealed = {image, part.n, sizeof image};
     memcpy(image, part.at, part.n);
     if (how & 32)

@@ -233,7 +233,7 @@ static void fill_table(struct dice *d, struct bytes *s)
         return;
     at += packet_bytes(s, at);
     make_message(d, PLAIN_DIRECTORY, &m);
-    for (unsigned i = 0; i < 257; i++) {
+    for (unsigned i = 0; i < PLAIN_MAX_ROWS + 1; i++) {
         m.id = id ^ (i + 1);
         plain_write(&m, body, sizeof body, &written);
         insert_packet(s, at, 'S', body, written);

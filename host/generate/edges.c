@@ -216,7 +216,8 @@ void edge_image(struct dice *d, struct bytes *image)
     uint64_t next = dice_chance(d, 30) ? dice_below(d, 3) : PLAIN_MAX_NUMBER + dice_below(d, 2);
     if (rows > 0 && dice_chance(d, 50)) {
         row = dice_below(d, rows);
-        edge_row(d, image->at + (1 + row / 4) * PLAIN_BLOCK_BYTES + 14 + row % 4 * PLAIN_ROW_BYTES);
+        edge_row(d, image->at + (1 + row / PLAIN_BLOCK_ROWS) * PLAIN_BLOCK_BYTES + 14 +
+                        row % PLAIN_BLOCK_ROWS * PLAIN_ROW_BYTES);
     } else if (dice_chance(d, 20)) {
         for (size_t at = 0; at < image->n; at += PLAIN_BLOCK_BYTES)
             nelqubat_set(image->at + at + 6, 8, next);

@@ -34,7 +34,7 @@ size_t make_message_bytes(struct dice *d, uint8_t *out, size_t room);
 /* A session as the exchange sends it. After the opening come `packets`
  * packets, drawn by the seven weights, of which one at least is not 0. */
 struct session_plan {
-    unsigned instruments; /* 1 to 256 */
+    unsigned instruments; /* 1 to PLAIN_MAX_ROWS */
     unsigned packets;
     unsigned quotes, states, directories, newcomers, events, heartbeats, skipped;
     unsigned varied; /* percent of the quotes whose prices are varied */
@@ -69,8 +69,8 @@ enum session_damage {
     SESSION_DAMAGES
 };
 
-/* Extra room that a damage may need. */
-enum { DAMAGE_ROOM = 257 * 66 + 512 };
+/* Extra room that a damage may need: a directory for each row of a table and one more. */
+enum { DAMAGE_ROOM = (PLAIN_MAX_ROWS + 1) * (3 + PLAIN_MESSAGE_BYTES) + 512 };
 
 /* Damages a session; it stays as it is where the damage finds no place. */
 void damage_session(struct dice *d, enum session_damage kind, struct bytes *s);
@@ -116,12 +116,15 @@ void put_packet_for(struct dice *d, const struct plain_reader *r,
 void make_quoted(struct dice *d, bool blurred, struct plain_reader *r,
                  uint8_t *table, struct bytes *s);
 
+/* IMAGE_RESIZED gives an image one of the counts of blocks about which versions and
+ * lengths change, IMAGE_NAMED names other rows, both often with the version that is
+ * then right. */
 enum image_damage {
     IMAGE_EMPTY, IMAGE_PART, IMAGE_LONG, IMAGE_CHECK, IMAGE_NUMBER, IMAGE_COUNT,
-    IMAGE_VERSION, IMAGE_NEXT_RANGE, IMAGE_NEXT_DIFFERS, IMAGE_BLOCK_DROPPED,
-    IMAGE_BLOCK_ADDED, IMAGE_BLOCKS_SWAPPED, IMAGE_KNOWN, IMAGE_EVENT,
-    IMAGE_ROWS, IMAGE_LIVE, IMAGE_PADDING, IMAGE_UNKNOWN_SESSION, IMAGE_ROW,
-    IMAGE_ID_TWICE, IMAGE_SLOT, IMAGE_ANY_BYTE, IMAGE_SEVERAL,
+    IMAGE_NEXT_RANGE, IMAGE_NEXT_DIFFERS, IMAGE_BLOCK_DROPPED, IMAGE_BLOCK_ADDED,
+    IMAGE_BLOCKS_SWAPPED, IMAGE_VERSION, IMAGE_RESIZED, IMAGE_NAMED, IMAGE_KNOWN,
+    IMAGE_EVENT, IMAGE_ROWS, IMAGE_LIVE, IMAGE_PADDING, IMAGE_UNKNOWN_SESSION,
+    IMAGE_ROW, IMAGE_ID_TWICE, IMAGE_SLOT, IMAGE_ANY_BYTE, IMAGE_SEVERAL,
     IMAGE_DAMAGES
 };
 

@@ -28,7 +28,23 @@ static uint8_t *pick_block(struct dice *d, struct bytes *image)
 /* The row in slot k, counted through the blocks. */
 static uint8_t *slot(struct bytes *image, size_t k)
 {
-    return image->at + (1 + k / 4) * PLAIN_BLOCK_BYTES + 14 + k % 4 * PLAIN_ROW_BYTES;
+    return image->at + (1 + k / PLAIN_BLOCK_ROWS) * PLAIN_BLOCK_BYTES + 14 + k % PLAIN_BLOCK_ROWS * PLAIN_ROW_BYTES;
+}
+
+static size_t blocks_for(uint64_t rows)
+{
+    return 1 + (size_t)(rows + PLAIN_BLOCK_ROWS - 1) / PLAIN_BLOCK_ROWS;
+}
+
+/* Gives an image so many blocks, if there is room; new ones are all zero. */
+static void set_blocks(struct bytes *image, size_t blocks)
+{
+    size_t n = blocks * PLAIN_BLOCK_BYTES;
+    if (n > image->room)
+        return;
+    if (n > image->n)
+        memset(image->at + image->n, 0, n - image->n);
+    image->n = n;
 }
 
 static void damage_image_length(struct dice *d, enum image_damage kind,
@@ -38,9 +54,8 @@ static void damage_image_length(struct dice *d, enum image_damage kind,
         image->n = 0;
     } else if (kind == IMAGE_PART) {
         image->n -= dice_between(d, 1, 511);
-    } else if (image->room >= 66 * PLAIN_BLOCK_BYTES) {
-        memset(image->at + image->n, 0, 66 * PLAIN_BLOCK_BYTES - image->n);
-        image->n = 66 * PLAIN_BLOCK_BYTES;
+    } else {
+        set_blocks(image, PLAIN_MAX_BLOCKS + 1);
     }
 }
 
@@ -61,7 +76,7 @@ static void damage_next(struct dice *d, enum image_damage kind,
 static void damage_head(struct dice *d, enum image_damage kind,
                         struct bytes *image)
 {
-    size_t at = kind == IMAGE_NUMBER ? 0 : kind == IMAGE_COUNT ? 2 : 4;
+    size_t at = kind == IMAGE_NUMBER ? 0 : 2;
     uint8_t *block = pick_block(d, image);
     if (dice_chance(d, 50))
         set_number(block + at, 2, get_number(block + at, 2) + 1);
@@ -69,13 +84,16 @@ static void damage_head(struct dice *d, enum image_damage kind,
         set_other(d, &block[at + dice_below(d, 2)]);
 }
 
-/* Numbers and counts of all blocks made right for the image's length. */
+/* Numbers and counts of all blocks made right for the image's length, with the next
+ * number of block 0. */
 static void number_blocks(struct bytes *image)
 {
     size_t count = image->n / PLAIN_BLOCK_BYTES;
     for (size_t k = 0; k < count; k++) {
-        set_number(image->at + k * PLAIN_BLOCK_BYTES, 2, k);
-        set_number(image->at + k * PLAIN_BLOCK_BYTES + 2, 2, count);
+        uint8_t *block = image->at + k * PLAIN_BLOCK_BYTES;
+        set_number(block, 2, k);
+        set_number(block + 2, 2, count);
+        memmove(block + 6, image->at + 6, 8);
     }
 }
 
@@ -98,6 +116,69 @@ static void damage_blocks(struct dice *d, enum image_damage kind,
         put_bytes(image, copy, sizeof copy);
     if (dice_chance(d, 70))
         number_blocks(image);
+}
+
+/* Versions. */
+
+static uint64_t version_for(uint64_t rows)
+{
+    return rows <= PLAIN_ROWS_OF_VERSION_1 ? 1 : 2;
+}
+
+static void set_versions(struct bytes *image, uint64_t version)
+{
+    for (size_t at = 0; at < image->n; at += PLAIN_BLOCK_BYTES)
+        set_number(image->at + at + 4, 2, version);
+}
+
+/* A version from 0 to 3, or any other, in all blocks or in one. */
+static void change_version(struct dice *d, struct bytes *image)
+{
+    uint64_t version = dice_chance(d, 80) ? dice_below(d, 4) : dice_below(d, 1 << 16);
+    if (dice_chance(d, 60))
+        set_versions(image, version);
+    else
+        set_number(pick_block(d, image) + 4, 2, version);
+}
+
+/* Blocks are cut off or added; the version is that of the rows named or of as many
+ * as the blocks have room for, or stays. */
+static void resize(struct dice *d, struct bytes *image)
+{
+    static const size_t counts[] = {1 + PLAIN_ROWS_OF_VERSION_1 / PLAIN_BLOCK_ROWS,
+                                    2 + PLAIN_ROWS_OF_VERSION_1 / PLAIN_BLOCK_ROWS,
+                                    PLAIN_MAX_BLOCKS - 1, PLAIN_MAX_BLOCKS, PLAIN_MAX_BLOCKS + 1};
+    size_t count = counts[dice_below(d, sizeof counts / sizeof *counts)];
+    set_blocks(image, count);
+    number_blocks(image);
+    if (dice_chance(d, 40))
+        set_versions(image, version_for(get_number(image->at + 26, 2)));
+    else if (dice_chance(d, 50))
+        set_versions(image, version_for((count - 1) * PLAIN_BLOCK_ROWS));
+}
+
+/* Other rows are named; the version is theirs, or stays. */
+static void name_rows(struct dice *d, struct bytes *image)
+{
+    static const uint16_t edges[] = {0, PLAIN_ROWS_OF_VERSION_1, PLAIN_ROWS_OF_VERSION_1 + 1, PLAIN_MAX_ROWS,
+                                     PLAIN_MAX_ROWS + 1, UINT16_MAX};
+    uint64_t rows = dice_below(d, 2 * PLAIN_MAX_ROWS);
+    if (dice_chance(d, 60))
+        rows = edges[dice_below(d, sizeof edges / sizeof *edges)];
+    set_number(image->at + 26, 2, rows);
+    if (dice_chance(d, 50))
+        set_versions(image, version_for(rows));
+}
+
+static void damage_version(struct dice *d, enum image_damage kind,
+                           struct bytes *image)
+{
+    if (kind == IMAGE_VERSION)
+        change_version(d, image);
+    else if (kind == IMAGE_RESIZED)
+        resize(d, image);
+    else
+        name_rows(d, image);
 }
 
 static void damage_summary(struct dice *d, enum image_damage kind,
@@ -135,15 +216,15 @@ static void damage_rows(struct dice *d, enum image_damage kind,
 {
     size_t rows = (size_t)get_number(image->at + 26, 2);
     uint8_t *row;
-    if (rows == 0 || (rows + 3) / 4 + 1 > image->n / PLAIN_BLOCK_BYTES)
+    if (rows == 0 || blocks_for(rows) > image->n / PLAIN_BLOCK_BYTES)
         return;
     row = slot(image, dice_below(d, rows));
     if (kind == IMAGE_ROW) {
         break_row(d, row);
     } else if (kind == IMAGE_ID_TWICE) {
         memmove(row, slot(image, dice_below(d, rows)), 4);
-    } else if (rows % 4 != 0) {
-        row = slot(image, dice_between(d, rows, rows | 3));
+    } else if (rows % PLAIN_BLOCK_ROWS != 0) {
+        row = slot(image, dice_between(d, rows, (blocks_for(rows) - 1) * PLAIN_BLOCK_ROWS - 1));
         set_between(d, &row[dice_below(d, PLAIN_ROW_BYTES)], 1, 255);
     }
 }
@@ -156,12 +237,14 @@ static void damage_once(struct dice *d, enum image_damage kind,
         damage_image_length(d, kind, image);
     else if (kind <= IMAGE_CHECK)
         set_other(d, &block[dice_between(d, 510, 511)]);
-    else if (kind <= IMAGE_VERSION)
+    else if (kind <= IMAGE_COUNT)
         damage_head(d, kind, image);
     else if (kind <= IMAGE_NEXT_DIFFERS)
         damage_next(d, kind, image);
     else if (kind <= IMAGE_BLOCKS_SWAPPED)
         damage_blocks(d, kind, image);
+    else if (kind <= IMAGE_NAMED)
+        damage_version(d, kind, image);
     else if (kind <= IMAGE_UNKNOWN_SESSION)
         damage_summary(d, kind, image);
     else if (kind <= IMAGE_SLOT)

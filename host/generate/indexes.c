@@ -1,5 +1,6 @@
 #include "parts.h"
 
+#include <stdlib.h>
 #include <string.h>
 
 enum { PLACE_BYTES = 2 };
@@ -9,28 +10,22 @@ static uint8_t *place_at(uint8_t *index, size_t place)
     return index + place * PLACE_BYTES;
 }
 
-/* By id, and where two rows have one id, by their numbers. */
-static bool comes_before(const uint8_t *table, uint32_t a, uint32_t b)
+static int by_value(const void *a, const void *b)
 {
-    uint64_t first = get_number(table + a * (size_t)PLAIN_ROW_BYTES, 4);
-    uint64_t second = get_number(table + b * (size_t)PLAIN_ROW_BYTES, 4);
-    return first != second ? first < second : a < b;
+    uint64_t first = *(const uint64_t *)a, second = *(const uint64_t *)b;
+    return (first > second) - (first < second);
 }
 
-/* How many rows come before this one. */
-static size_t place_of(const uint8_t *table, uint32_t rows, uint32_t row)
-{
-    size_t before = 0;
-    for (uint32_t k = 0; k < rows; k++)
-        before += comes_before(table, k, row);
-    return before;
-}
-
+/* Sorts ids with the numbers of their rows behind them. */
 void make_index(const uint8_t *table, uint32_t rows, uint8_t *index)
 {
-    memset(index, 0, PLAIN_INDEX_BYTES);
+    uint64_t ids[PLAIN_MAX_ROWS];
     for (uint32_t row = 0; row < rows; row++)
-        set_number(place_at(index, place_of(table, rows, row)), PLACE_BYTES, row);
+        ids[row] = get_number(table + row * (size_t)PLAIN_ROW_BYTES, 4) << 16 | row;
+    qsort(ids, rows, sizeof *ids, by_value);
+    memset(index, 0, PLAIN_INDEX_BYTES);
+    for (size_t place = 0; place < rows; place++)
+        set_number(place_at(index, place), PLACE_BYTES, ids[place]);
 }
 
 /* A number of no row in use: the first, the first that no table has, or any. */

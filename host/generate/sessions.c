@@ -27,10 +27,22 @@ struct session_plan usual_plan(void)
     return plan;
 }
 
+/* Mostly few, else as many as fill the table or as lie about a change of version. */
+static unsigned pick_instruments(struct dice *d)
+{
+    static const unsigned many[] = {PLAIN_ROWS_OF_VERSION_1 - 1, PLAIN_ROWS_OF_VERSION_1,
+                                    PLAIN_ROWS_OF_VERSION_1 + 1, PLAIN_MAX_ROWS - 1};
+    if (dice_chance(d, 4))
+        return PLAIN_MAX_ROWS;
+    if (dice_chance(d, 5))
+        return many[dice_below(d, sizeof many / sizeof *many)];
+    return (unsigned)dice_between(d, 1, 12);
+}
+
 struct session_plan random_plan(struct dice *d)
 {
     struct session_plan plan = usual_plan();
-    plan.instruments = (unsigned)(dice_chance(d, 10) ? 256 : dice_between(d, 1, 12));
+    plan.instruments = pick_instruments(d);
     plan.packets = (unsigned)dice_below(d, 120);
     plan.quotes = (unsigned)dice_between(d, 1, 100);
     plan.states = (unsigned)dice_below(d, 40);
@@ -53,7 +65,7 @@ struct session_plan random_plan(struct dice *d)
 
 size_t session_room(const struct session_plan *plan)
 {
-    return 1024 + plan->instruments * (size_t)(66 + 19 + 19) +
+    return 1024 + plan->instruments * (size_t)(3 + PLAIN_MESSAGE_BYTES + 19 + 19) +
            plan->packets * (size_t)PLAIN_PACKET_BYTES;
 }
 

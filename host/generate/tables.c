@@ -112,12 +112,18 @@ void break_row(struct dice *d, uint8_t *row)
     }
 }
 
+/* Mostly few rows; else about a place where an image gets one more block or another
+ * version, about the most there may be, or any count. */
 static uint32_t pick_row_count(struct dice *d)
 {
-    static const uint16_t edges[] = {0, 1, 3, 4, 5, 8, 9, 252, 253, 255, 256};
+    enum { MOST = PLAIN_MAX_ROWS, LAST_OF_1 = PLAIN_ROWS_OF_VERSION_1 };
+    static const uint16_t few[] = {0, 1, 3, 4, 5, 8, 9};
+    static const uint16_t many[] = {LAST_OF_1 - 1, LAST_OF_1, LAST_OF_1 + 1, MOST - 4, MOST - 3, MOST - 1, MOST};
+    if (dice_chance(d, 15))
+        return few[dice_below(d, sizeof few / sizeof *few)];
     if (dice_chance(d, 30))
-        return edges[dice_below(d, sizeof edges / sizeof *edges)];
-    return (uint32_t)dice_below(d, dice_chance(d, 20) ? 257 : 20);
+        return many[dice_below(d, sizeof many / sizeof *many)];
+    return (uint32_t)dice_below(d, dice_chance(d, 15) ? MOST + 1 : 20);
 }
 
 /* Rows with ids that differ; then zeros, or other bytes, past them. */
@@ -187,7 +193,7 @@ void break_reader(struct dice *d, struct plain_reader *r)
 {
     switch (dice_below(d, 6)) {
     case 0:
-        r->rows = 257 + (uint32_t)pick_number(d, UINT32_MAX - 257);
+        r->rows = PLAIN_MAX_ROWS + 1 + (uint32_t)pick_number(d, UINT32_MAX - PLAIN_MAX_ROWS - 1);
         break;
     case 1:
         r->next = 0;

@@ -1,7 +1,7 @@
 /* nelqubat: a reader of one Top of Market session, for C.
  *
  * The library reads the server's SoupBinTCP bytes piece by piece, keeps a
- * table of at most 256 instruments, saves and restores that table, and reads
+ * table of at most 500 instruments, saves and restores that table, and reads
  * and writes single messages. It is built for x86-64. `host/run install PREFIX`
  * installs it, and `pkg-config --cflags --libs nelqubat` then says how to link.
  *
@@ -45,8 +45,13 @@
  * host wrote there or lent another reader's index, the call is refused with 20 and
  * its packet is left.
  *
+ * Saved tables: an image with up to 256 rows has version 1 and the bytes that it
+ * always had; one with more rows has version 2. A restore takes both, each with its
+ * own rows only. A library of version 4 or less answers 21 to any image with more
+ * than 256 rows.
+ *
  * Stack: measured by `host/run stack`, a step and a run take up to 1,400 bytes,
- * saving and restoring up to 1,600 and every other call up to 400;
+ * saving and restoring up to 2,600 and every other call up to 400;
  * NELQUBAT_STACK_BYTES is more than any was seen to take.
  *
  * Threads: calls that share no memory may run at the same time. While a step, a
@@ -82,19 +87,25 @@ extern "C" {
  * with helpers for prices; sizes, layouts, calls and refusals are as in 2. A
  * program that asked nelqubat_row_has_bid whether a side was seen now asks
  * nelqubat_row_seen_bid. 4 is 3 with index memory, which start, step, run, restore
- * and find are lent behind the table; a program for 3 does not build with it. */
-#define NELQUBAT_VERSION 4
+ * and find are lent behind the table; a program for 3 does not build with it. 5 is
+ * 4 with 500 instruments where 4 had 256: table, index and the longest image are
+ * larger, and an image with more than 256 rows has version 2. A program for 4 that
+ * takes its sizes from here needs no change, only to be built anew. */
+#define NELQUBAT_VERSION 5
 
-/* Sizes, in bytes. */
+/* Sizes, in bytes. By the most rows, 500, a table has 62,000, an index 1,000 and the
+ * longest image 64,512, which is 126 blocks. */
 enum {
     NELQUBAT_HANDLE_BYTES = 305,
     NELQUBAT_ROW_BYTES = 124,
-    NELQUBAT_MAX_ROWS = 256,
-    NELQUBAT_TABLE_BYTES = 31744,  /* 256 rows of 124 */
-    NELQUBAT_INDEX_BYTES = 512,    /* 256 row numbers of 2 */
+    NELQUBAT_MAX_ROWS = 500,
+    NELQUBAT_TABLE_BYTES = NELQUBAT_MAX_ROWS * NELQUBAT_ROW_BYTES,
+    NELQUBAT_INDEX_BYTES = NELQUBAT_MAX_ROWS * 2, /* a row number for each */
     NELQUBAT_RECORD_BYTES = 112,   /* a record; also the event memory */
     NELQUBAT_BLOCK_BYTES = 512,
-    NELQUBAT_IMAGE_BYTES = 33280,  /* the longest image, 65 blocks */
+    NELQUBAT_BLOCK_ROWS = 4,       /* rows in each block behind the first */
+    NELQUBAT_MAX_BLOCKS = 1 + (NELQUBAT_MAX_ROWS + NELQUBAT_BLOCK_ROWS - 1) / NELQUBAT_BLOCK_ROWS,
+    NELQUBAT_IMAGE_BYTES = NELQUBAT_MAX_BLOCKS * NELQUBAT_BLOCK_BYTES, /* the longest image */
     NELQUBAT_MESSAGE_BYTES = 63,   /* the longest message, a directory */
     NELQUBAT_PACKET_BYTES = 258,   /* the longest packet, its length included */
     NELQUBAT_LINE_BYTES = 80,      /* more than any line of the listing */
@@ -119,11 +130,12 @@ enum {
     NELQUBAT_REFUSED_NO_ROW = 13,         /* state or quote for an id with no row */
     NELQUBAT_REFUSED_NOT_TRADING = 14,    /* a quote, state not T, B or S, or tradable not Y */
     NELQUBAT_REFUSED_FIXED_FIELD = 15,    /* a directory changes a fixed field */
-    NELQUBAT_REFUSED_FULL = 16,           /* a new id, 256 rows in use */
+    NELQUBAT_REFUSED_FULL = 16,           /* a new id, 500 rows in use */
     NELQUBAT_REFUSED_MEMORY = 20,         /* wrong length, no handle, a limit broken, a false index */
-    NELQUBAT_REFUSED_IMAGE_LENGTH = 21,   /* 0, not whole blocks, or over 65 blocks */
+    NELQUBAT_REFUSED_IMAGE_LENGTH = 21,   /* 0, not whole blocks, or over 126 blocks */
     NELQUBAT_REFUSED_CHECK = 22,          /* a block's check is wrong */
-    NELQUBAT_REFUSED_HEAD = 23,           /* a block's number, count, version or next number */
+    NELQUBAT_REFUSED_HEAD = 23,           /* a block's number, count or next number, or a version
+                                             that does not fit the rows */
     NELQUBAT_REFUSED_CONTENTS = 24,       /* contents break the row or block rules */
     NELQUBAT_REFUSED_SHORT = 25,          /* output memory too short */
     NELQUBAT_REFUSED_RECORD = 26,         /* no record, or it breaks its field rules */
@@ -297,7 +309,8 @@ uint64_t nelqubat_run(uint8_t *handle, size_t handle_n,
                       uint8_t *index, size_t index_n,
                       const uint8_t *piece, size_t piece_n, uint32_t ceiling);
 
-/* Writes the saved table, 512 bytes for each block, to the front of `out`.
+/* Writes the saved table, 512 bytes for each block, to the front of `out`: version 1
+ * with up to 256 rows, version 2 with more.
  * Answer: the count written, or 20 (handle, table, limits), 24 (the rows or
  * the handle cannot be saved), 25 (out too short), and then `out` is as it
  * was. Bytes of `out` after the count are as they were. Held bytes and a

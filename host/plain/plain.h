@@ -1,8 +1,8 @@
 /* A reader of one Top of Market session, in plain C11.
  *
  * It reads the server's SoupBinTCP byte stream piece by piece, keeps a table
- * of at most 256 instruments, saves and restores that table, and reads and
- * writes single messages. The caller lends all memory; there is no other state.
+ * of at most PLAIN_MAX_ROWS instruments, saves and restores that table, and reads
+ * and writes single messages. The caller lends all memory; there is no other state.
  * Refusals are the numbers of document 01; 0 means done.
  */
 #ifndef PLAIN_H
@@ -12,19 +12,26 @@
 #include <stddef.h>
 #include <stdint.h>
 
+/* The most rows of a table, from which the sizes below follow. Built with 256 it
+ * is the reader from before document 02 raised the number. */
+#ifndef PLAIN_MAX_ROWS
+#define PLAIN_MAX_ROWS 500
+#endif
+
 enum {
     PLAIN_ROW_BYTES = 124,
-    PLAIN_MAX_ROWS = 256,
     PLAIN_TABLE_BYTES = PLAIN_MAX_ROWS * PLAIN_ROW_BYTES,
     PLAIN_INDEX_BYTES = PLAIN_MAX_ROWS * 2, /* a row's number in each place */
     PLAIN_BLOCK_BYTES = 512,
-    PLAIN_MAX_BLOCKS = 65,
+    PLAIN_BLOCK_ROWS = 4,
+    PLAIN_MAX_BLOCKS = 1 + (PLAIN_MAX_ROWS + PLAIN_BLOCK_ROWS - 1) / PLAIN_BLOCK_ROWS,
     PLAIN_IMAGE_BYTES = PLAIN_MAX_BLOCKS * PLAIN_BLOCK_BYTES,
-    PLAIN_PACKET_BYTES = 258,  /* the longest packet, its length included */
-    PLAIN_MESSAGE_BYTES = 63,  /* the longest message, a directory */
+    PLAIN_ROWS_OF_VERSION_1 = 256, /* an image with more of them has version 2 */
+    PLAIN_PACKET_BYTES = 258,      /* the longest packet, its length included */
+    PLAIN_MESSAGE_BYTES = 63,      /* the longest message, a directory */
     PLAIN_SESSION_BYTES = 10,
-    PLAIN_MAX_PACKETS = 1000,  /* the highest ceiling of a run */
-    PLAIN_LISTING_BYTES = 9502 /* the longest listing */
+    PLAIN_MAX_PACKETS = 1000,      /* the highest ceiling of a run */
+    PLAIN_LISTING_BYTES = 19 + PLAIN_MAX_ROWS * 37 + 11 /* first line, rows and last line at their longest */
 };
 
 #define PLAIN_MAX_NUMBER UINT64_C(1000000000000)

@@ -56,8 +56,21 @@ bool same_bench(const struct bench *a, const struct bench *b);
 /* The listing's text, with room for it and a byte short. */
 void expect_listing(const struct bench *b, const char *wanted);
 
-/* Fills the table by hand-made rows with ids 1000 on. */
+/* Lists so many instruments by hand-made directories, with ids FIRST_ID on, behind
+ * the rows that are there; or as many as fill the table. */
+enum { FIRST_ID = 1000 };
+
+void list_rows(struct bench *b, uint32_t count);
 void fill_up(struct bench *b);
+
+/* Makes every block's check right. */
+void seal(uint8_t *image, size_t n);
+
+/* Restoring is refused with this number: a fresh handle, table and index untouched.
+ * With a table or an index of another length it is refused with 20. */
+void refused_in(const char *file, int line, const uint8_t *image, size_t n, int number);
+
+#define restore_refused(line, image, n, number) refused_in(__FILE__, (line), (image), (n), (number))
 
 /* The packets of the tests. The time is that of C8. */
 #define SESSION "ISE0000001"
@@ -122,6 +135,8 @@ void test_index(void);
 void test_runs(void);
 void test_messages(void);
 void test_images(void);
+void test_versions(void);
+void test_samples(size_t n, char *const *paths); /* images in files */
 void test_generators(void);
 
 #endif

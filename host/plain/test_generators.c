@@ -238,7 +238,7 @@ static void made_quotes(void)
 static void made_images(void)
 {
     static uint8_t space[PLAIN_IMAGE_BYTES + PLAIN_BLOCK_BYTES], again[PLAIN_IMAGE_BYTES];
-    unsigned long seen[32] = {0};
+    unsigned long seen[32] = {0}, made[PLAIN_MAX_ROWS + 1] = {0};
     for (uint64_t seed = 0; seed < 150 * IMAGE_DAMAGES; seed++) {
         struct dice d = dice_seeded(seed);
         struct bytes image = {space, 0, sizeof space};
@@ -248,6 +248,7 @@ static void made_images(void)
         make_image(&d, &image);
         EQUAL(plain_restore(&b.r, b.table, sizeof b.table, b.index, sizeof b.index, image.at, image.n), 0, "a made image");
         expect_true_index(&b);
+        made[b.r.rows]++;
         damage_image(&d, (enum image_damage)(seed % IMAGE_DAMAGES), &image);
         refusal = plain_restore(&b.r, b.table, sizeof b.table, b.index, sizeof b.index, image.at, image.n);
         seen[refusal]++;
@@ -258,6 +259,9 @@ static void made_images(void)
     }
     for (size_t k = 21; k <= 24; k++)
         EXPECT(seen[k] > 100, "the damages reach every refusal of an image");
+    EXPECT(made[0] > 20 && made[PLAIN_ROWS_OF_VERSION_1] > 20 && made[PLAIN_ROWS_OF_VERSION_1 + 1] > 20 &&
+               made[PLAIN_MAX_ROWS - 1] > 20 && made[PLAIN_MAX_ROWS] > 20,
+           "the rows that made images have");
 }
 
 void test_generators(void)

@@ -68,37 +68,34 @@ static void entered_by_id(void)
     PLACES(&b, 4, 1, 0, 3, 2, 7, 6, 5);
 }
 
-/* Ids from one on, each so much above the one before, in a ring of 256. */
-static void entered_in_turn(uint32_t first, uint32_t by, uint32_t count, const uint16_t *wanted)
+/* Ids from one on, each so much above the one before, in a ring of as many as fill a
+ * table. All of them differ, so that each id of the ring is that of one row. */
+static void entered_in_turn(uint32_t first, uint32_t by, uint32_t count)
 {
+    uint16_t row_of[PLAIN_MAX_ROWS], wanted[PLAIN_MAX_ROWS];
     struct bench b;
+    size_t places = 0;
     begin(&b);
-    for (uint32_t k = 0; k < count; k++)
-        list_id(&b, (first + k * by) % 256);
+    for (uint32_t row = 0; row < PLAIN_MAX_ROWS; row++)
+        row_of[(first + row * by) % PLAIN_MAX_ROWS] = (uint16_t)row;
+    for (uint32_t row = 0; row < count; row++)
+        list_id(&b, (first + row * by) % PLAIN_MAX_ROWS);
+    for (uint32_t id = 0; id < PLAIN_MAX_ROWS; id++)
+        if (row_of[id] < count)
+            wanted[places++] = row_of[id];
+    EQUAL(places, count, "a place for each row");
     expect_index(__LINE__, &b, wanted, count);
 }
 
-/* 97 times 161 is 1 more than 61 times 256: in mixed order id p has row 161 times
- * p - 31, and the last row has id 190. */
+/* Ids that rise, that fall, and in mixed order. */
 static void full_tables(void)
 {
-    uint16_t rising[256], falling[256], falling_short[255], mixed[256], mixed_short[255];
-    for (uint32_t p = 0; p < 256; p++) {
-        rising[p] = (uint16_t)p;
-        falling[p] = (uint16_t)(255 - p);
-        mixed[p] = (uint16_t)(161 * (p + 256 - 31) % 256);
+    for (uint32_t count = 0; count <= PLAIN_MAX_ROWS; count++)
+        entered_in_turn(0, 1, count);
+    for (uint32_t count = PLAIN_MAX_ROWS - 1; count <= PLAIN_MAX_ROWS; count++) {
+        entered_in_turn(PLAIN_MAX_ROWS - 1, PLAIN_MAX_ROWS - 1, count);
+        entered_in_turn(31, 97, count);
     }
-    for (uint32_t p = 0; p < 255; p++) {
-        falling_short[p] = (uint16_t)(254 - p);
-        mixed_short[p] = mixed[p < 190 ? p : p + 1];
-    }
-    EQUAL(mixed[190], 255, "the last row's place");
-    for (uint32_t count = 0; count <= 256; count++)
-        entered_in_turn(0, 1, count, rising);
-    entered_in_turn(255, 255, 255, falling_short);
-    entered_in_turn(255, 255, 256, falling);
-    entered_in_turn(31, 97, 255, mixed_short);
-    entered_in_turn(31, 97, 256, mixed);
 }
 
 /* A step that goes astray: 20, and everything is as it was. */
@@ -131,7 +128,7 @@ static void visited_places(void)
     feed(&c, LITERAL(STATE(ID7, "H")));
     ASTRAY(&c, BOTH_SHORT(ID8));
     ASTRAY(&c, ASK_SHORT(ID9));
-    c = b, set_place(&c, 0, 256);
+    c = b, set_place(&c, 0, PLAIN_MAX_ROWS);
     feed(&c, LITERAL(STATE(ID8, "H") STATE(ID9, "H")));
     ASTRAY(&c, STATE(ID7, "H"));
     ASTRAY(&c, DIRECTORY(ID_ZERO, "Y"));
@@ -145,6 +142,7 @@ static void visited_places(void)
 /* 20 comes after 1 to 6 and 10 to 12, and before 13 to 16; S and M look nowhere. */
 static void order_of_refusals(void)
 {
+    enum { VISITED_FIRST = PLAIN_MAX_ROWS / 2 };
     struct bench b, full;
     begin_three(&b);
     memset(b.index, 0xFF, INDEX);
@@ -156,9 +154,9 @@ static void order_of_refusals(void)
     EQUAL(step(&b, LITERAL(STATE(ID7, "T"))).refusal, 12, "a standing refusal before 20");
     begin(&full);
     fill_up(&full);
-    set_place(&full, 128, 256);
+    set_place(&full, VISITED_FIRST, PLAIN_MAX_ROWS);
     ASTRAY(&full, DIRECTORY(ID7, "Y"));
-    set_place(&full, 128, 128);
+    set_place(&full, VISITED_FIRST, VISITED_FIRST);
     EQUAL(step(&full, LITERAL(DIRECTORY(ID7, "Y"))).refusal, 16, "16 with a true index");
 }
 

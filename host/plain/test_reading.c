@@ -202,7 +202,7 @@ static void sides_unseen(void)
 
 static void longest_listing(void)
 {
-    static const uint8_t largest[] = ROW("\xFF\xFF\xFF\x00", "Y", "T", "X", "\3",
+    static const uint8_t largest[] = ROW(ID_MAX, "Y", "T", "X", "\3",
                                          LONG_BID, LONG_BID, "\4");
     struct bench b;
     char text[PLAIN_LISTING_BYTES];
@@ -210,7 +210,7 @@ static void longest_listing(void)
     start(&b);
     for (size_t k = 0; k < PLAIN_MAX_ROWS; k++) {
         memcpy(b.table + k * PLAIN_ROW_BYTES, largest, PLAIN_ROW_BYTES);
-        b.table[k * PLAIN_ROW_BYTES + 3] = (uint8_t)k;
+        set_number(b.table + k * PLAIN_ROW_BYTES, 4, UINT32_MAX - k);
     }
     b.r.rows = PLAIN_MAX_ROWS;
     b.r.next = PLAIN_MAX_NUMBER;
@@ -368,9 +368,10 @@ static void rows_found(void)
     start(&b);
     feed(&b, LITERAL(LOGIN));
     fill_up(&b);
-    expect_found(__LINE__, &b, 1000, 0);
-    expect_found(__LINE__, &b, 1255, 255);
-    expect_found(__LINE__, &b, 1256, PLAIN_MAX_ROWS);
+    for (uint32_t k = 0; k < PLAIN_MAX_ROWS; k++)
+        expect_found(__LINE__, &b, FIRST_ID + k, k);
+    expect_found(__LINE__, &b, FIRST_ID - 1, PLAIN_MAX_ROWS);
+    expect_found(__LINE__, &b, FIRST_ID + PLAIN_MAX_ROWS, PLAIN_MAX_ROWS);
 }
 
 /* Only rows in use are looked at: what lies past them is no row. */
@@ -513,16 +514,29 @@ static void message_refusals(void)
     feed(&b, LITERAL(STATE(ID_MAX, "T")));
     REFUSED(&b, BID_LONG(ID_MAX), 14);
     feed(&b, LITERAL(DIRECTORY(ID_MAX, "Y") BID_LONG(ID_MAX)));
+}
+
+/* The first and the last row of a full table are spoken to as any other, and no
+ * other row is added. */
+static void full_table(void)
+{
+    enum { LAST = PLAIN_MAX_ROWS - 1 };
+    uint8_t packets[] = STATE("\0\0\0\0", "T") BOTH_LONG("\0\0\0\0");
+    uint8_t row[] = ROW("\0\0\0\0", "Y", "T", "X", "\3", LONG_BID, LONG_ASK, "\4");
+    struct bench b;
     start(&b);
     feed(&b, LITERAL(LOGIN));
     fill_up(&b);
-    EQUAL(b.r.rows, 256, "256 rows");
     REFUSED(&b, DIRECTORY(ID7, "Y"), 16);
+    REFUSED(&b, DIRECTORY(ID_MAX, "N"), 16);
     REFUSED(&b, STATE(ID7, "T"), 13);
-    feed(&b, LITERAL(DIRECTORY("\0\0\x03\xE8", "N") STATE("\0\0\x04\xE7", "T")
-                     BOTH_LONG("\0\0\x04\xE7")));
-    expect_row(&b, 255, LITERAL(ROW("\0\0\x04\xE7", "Y", "T", "X", "\3", LONG_BID,
-                                    LONG_ASK, "\4")));
+    feed(&b, LITERAL(DIRECTORY("\0\0\x03\xE8", "N")));
+    set_number(packets + 14, 4, FIRST_ID + LAST);
+    set_number(packets + 19 + 14, 4, FIRST_ID + LAST);
+    set_number(row, 4, FIRST_ID + LAST);
+    feed(&b, packets, sizeof packets - 1);
+    expect_row(&b, LAST, row, sizeof row - 1);
+    EQUAL(b.r.rows, PLAIN_MAX_ROWS, "no row is added");
 }
 
 /* A reader with one instrument, in a state unless that is 0. */
@@ -640,8 +654,7 @@ static void fixed_fields(void)
         else
             other[i] = (uint8_t)(i == 33 ? 'P' : i == 18 ? 'B' : other[i] + 1);
         refused_packet(__LINE__, &b, other, sizeof packet - 1, 15);
-        other[16] = 0x03; /* id 1000, with another symbol even when full: 15 */
-        other[17] = 0xE8;
+        set_number(other + 14, 4, FIRST_ID); /* with another symbol even when full: 15 */
         refused_packet(__LINE__, &full, other, sizeof packet - 1, 15);
     }
 }
@@ -676,7 +689,8 @@ static void broken_handles(void)
     handle_refused(__LINE__, &b, 0);
     handle_refused(__LINE__, &b, PLAIN_TABLE_BYTES - 1);
     handle_refused(__LINE__, &b, PLAIN_TABLE_BYTES + 1);
-    c = b, c.r.rows = 257, handle_refused(__LINE__, &c, PLAIN_TABLE_BYTES);
+    c = b, c.r.rows = PLAIN_MAX_ROWS, handle_accepted(__LINE__, &c);
+    c = b, c.r.rows = PLAIN_MAX_ROWS + 1, handle_refused(__LINE__, &c, PLAIN_TABLE_BYTES);
     c = b, c.r.next = 0, handle_refused(__LINE__, &c, PLAIN_TABLE_BYTES);
     c = b, c.r.next = PLAIN_MAX_NUMBER + 1, handle_refused(__LINE__, &c, PLAIN_TABLE_BYTES);
     c = b, c.r.next = UINT64_MAX, handle_refused(__LINE__, &c, PLAIN_TABLE_BYTES);
@@ -798,6 +812,7 @@ void test_reading(void)
     sides_in_strange_memory();
     packet_refusals();
     message_refusals();
+    full_table();
     quotes_by_state();
     states_in_turn();
     states_in_strange_memory();

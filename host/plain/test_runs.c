@@ -101,7 +101,7 @@ static void calls_refused(void)
     feed(&b, LITERAL(LOGIN));
     step(&b, LITERAL("\x00\x04" "+a"));
     broken = b;
-    broken.r.rows = 257;
+    broken.r.rows = PLAIN_MAX_ROWS + 1;
     call_refused(__LINE__, &b, PLAIN_TABLE_BYTES - 1, 5, 20);
     call_refused(__LINE__, &b, PLAIN_TABLE_BYTES + 1, 0, 20);
     call_refused(__LINE__, &broken, PLAIN_TABLE_BYTES, 1000, 20);

@@ -24,9 +24,11 @@ import ctypes
 import os
 from typing import NamedTuple, Optional
 
-VERSION = 4
-HANDLE_BYTES, TABLE_BYTES, INDEX_BYTES, RECORD_BYTES = 305, 31744, 512, 112
-ROW_BYTES, IMAGE_BYTES, LINE_BYTES, MESSAGE_BYTES = 124, 33280, 80, 63
+VERSION = 5
+MAX_ROWS, ROW_BYTES, BLOCK_ROWS, BLOCK_BYTES = 500, 124, 4, 512
+MAX_BLOCKS = 1 + (MAX_ROWS + BLOCK_ROWS - 1) // BLOCK_ROWS
+HANDLE_BYTES, TABLE_BYTES, INDEX_BYTES, RECORD_BYTES = 305, MAX_ROWS * ROW_BYTES, MAX_ROWS * 2, 112
+IMAGE_BYTES, LINE_BYTES, MESSAGE_BYTES = MAX_BLOCKS * BLOCK_BYTES, 80, 63
 PIECE_BYTES = 65536
 MAX_PACKETS = 1000
 KINDS = ("more", "login", "rejected", "message", "heartbeat", "end", "skipped", "ended", "refused", "ceiling")
@@ -273,7 +275,7 @@ def encode(message):
 
 
 class Reader:
-    """A reader of one session, with its table of at most 256 instruments. It is used by one thread at a time."""
+    """A reader of one session, with its table of at most MAX_ROWS instruments. It is used by one thread at a time."""
 
     def __init__(self):
         self._handle, self._table = _memory(HANDLE_BYTES), _memory(TABLE_BYTES)
@@ -290,7 +292,7 @@ class Reader:
         return reader
 
     def save(self):
-        """The saved table, as bytes."""
+        """The saved table, as bytes: version 1 with up to 256 rows, version 2 with more."""
         out = _memory(IMAGE_BYTES)
         count = _done(_library.nelqubat_save(*self._both, out, IMAGE_BYTES))
         return bytes(out)[:count]

@@ -31,7 +31,11 @@ def header():
 
 
 def constants():
-    return {name: int(value) for name, value in re.findall(r"\bNELQUBAT_(\w+) = (\d+)", header())}
+    """The header's numbers; some are counted from those before them."""
+    found = {}
+    for name, value in re.findall(r"\bNELQUBAT_(\w+) = ([\w +*/()-]+?) *(?:,|\n|/\*)", header()):
+        found[name] = eval(value.replace("NELQUBAT_", "").replace("/", "//"), {"__builtins__": {}}, found)
+    return found
 
 
 def dollars(price):
@@ -57,6 +61,12 @@ def login(session, number):
     return b"\x00\x1fA" + session + b"%20d" % number
 
 
+def directory(ident):
+    """The packet of a directory for an id."""
+    return (b"\x00\x40Sm" + bytes(10) + ident.to_bytes(4, "big") + b"IBM     " + bytes([26, 12, 18]) + bytes(4)
+            + b"CIBM          NYS" + bytes(16))
+
+
 class Layouts(unittest.TestCase):
     def places(self, prefix, structure):
         found = {name: value for name, value in constants().items() if name.startswith(prefix + "_")}
@@ -74,9 +84,10 @@ class Layouts(unittest.TestCase):
         self.assertIn(f"#define NELQUBAT_VERSION {nelqubat.VERSION}\n", header())
 
     def test_sizes(self):
-        for name in ("HANDLE", "TABLE", "INDEX", "RECORD", "ROW", "IMAGE", "LINE", "MESSAGE"):
+        for name in ("HANDLE", "TABLE", "INDEX", "RECORD", "ROW", "BLOCK", "IMAGE", "LINE", "MESSAGE"):
             self.assertEqual(getattr(nelqubat, name + "_BYTES"), constants()[name + "_BYTES"], name)
-        self.assertEqual(nelqubat.MAX_PACKETS, constants()["MAX_PACKETS"])
+        for name in ("MAX_ROWS", "BLOCK_ROWS", "MAX_BLOCKS", "MAX_PACKETS"):
+            self.assertEqual(getattr(nelqubat, name), constants()[name], name)
         for structure, size in ((nelqubat.RowBytes, 124), (nelqubat.RecordBytes, 112), (nelqubat.HandleBytes, 305)):
             self.assertEqual(nelqubat.ctypes.sizeof(structure), size)
 
@@ -90,7 +101,8 @@ class Layouts(unittest.TestCase):
 
 class Sessions(unittest.TestCase):
     def test_listings(self):
-        for name, least in (("open", 500), ("cut", 500), ("whole", 500), ("suspended", 70), ("nobids", 50)):
+        for name, least in (("open", 500), ("cut", 500), ("whole", 500), ("suspended", 70), ("nobids", 50),
+                            ("wide", 1000)):
             reader = nelqubat.Reader()
             events = sum(1 for _ in reader.read(os.path.join(SAMPLES, name + ".soup")))
             self.assertGreater(events, least)
@@ -147,16 +159,68 @@ class Sessions(unittest.TestCase):
 
     def true_numbers(self, reader):
         ids = [row.id for row in reader.rows()]
-        return sorted(range(len(ids)), key=ids.__getitem__) + [0] * (256 - len(ids))
+        return sorted(range(len(ids)), key=ids.__getitem__) + [0] * (nelqubat.MAX_ROWS - len(ids))
 
     def test_index(self):
         reader = nelqubat.Reader()
-        self.assertEqual(self.numbers(reader), [0] * 256)
+        self.assertEqual(self.numbers(reader), [0] * nelqubat.MAX_ROWS)
         for _ in reader.read(os.path.join(SAMPLES, "whole.soup")):
             self.assertEqual(self.numbers(reader), self.true_numbers(reader))
         self.assertGreater(len(reader.rows()), 10)
         again = nelqubat.Reader.restore(reader.save())
         self.assertEqual(self.numbers(again), self.true_numbers(reader))
+
+    def listed(self, rows):
+        """A reader of so many instruments, with ids in mixed order."""
+        reader = nelqubat.Reader()
+        packets = [directory((200 + 97 * k) % nelqubat.MAX_ROWS) for k in range(rows)]
+        self.assertEqual(len(list(reader.feed(login(b"SESSION001", 1) + b"".join(packets)))), rows + 1)
+        return reader
+
+    def test_versions(self):
+        """Saved, restored and resumed with an instrument more, beside the most rows of version 1 and of a table."""
+        for rows, blocks, version in ((0, 1, 1), (255, 65, 1), (256, 65, 1), (257, 66, 2), (300, 76, 2), (499, 126, 2)):
+            reader = self.listed(rows)
+            image = reader.save()
+            self.assertEqual(len(image), blocks * nelqubat.BLOCK_BYTES)
+            for at in range(4, len(image), nelqubat.BLOCK_BYTES):
+                self.assertEqual(image[at:at + 2], bytes([0, version]))
+            again = nelqubat.Reader.restore(image)
+            self.assertEqual((again.rows(), again.next, again.save()), (reader.rows(), rows + 1, image))
+            self.assertEqual(self.numbers(again), self.true_numbers(reader))
+            list(again.feed(login(b"SESSION001", rows + 1) + directory(nelqubat.MAX_ROWS)))
+            self.assertEqual((len(again.rows()), again.row(nelqubat.MAX_ROWS)), (rows + 1, again.rows()[-1]))
+            self.assertEqual(self.numbers(again), self.true_numbers(again))
+
+    def test_full(self):
+        reader = self.listed(nelqubat.MAX_ROWS)
+        image, rows, numbers = reader.save(), reader.rows(), self.numbers(reader)
+        self.assertEqual((len(image), len(rows)), (nelqubat.IMAGE_BYTES, nelqubat.MAX_ROWS))
+        again = nelqubat.Reader.restore(image)
+        list(again.feed(login(b"SESSION001", nelqubat.MAX_ROWS + 1)))
+        for full in (reader, again):
+            with self.assertRaises(nelqubat.Refused) as caught:
+                list(full.feed(directory(nelqubat.MAX_ROWS)))
+            self.assertEqual((caught.exception.number, full.refusal), (16, 16))
+            self.assertEqual((full.rows(), self.numbers(full), full.save()), (rows, numbers, image))
+
+    def test_full_sample(self):
+        reader = nelqubat.Reader()
+        runs = list(reader.runs(text(SAMPLES, "full.soup")))
+        self.assertEqual((runs[-1].why, runs[-1].refusal), ("refused", 16))
+        self.assertEqual(reader.listing().encode(), text(SAMPLES, "full.txt"))
+        self.assertEqual(reader.save(), text(SAMPLES, "rows-500.image"))
+
+    def test_sample_images(self):
+        """Restored and saved again; and each is the saved table of its session, read so far."""
+        for rows, name in ((256, "full"), (257, "full"), (300, "wide"), (500, "full")):
+            image, rest = text(SAMPLES, f"rows-{rows}.image"), text(SAMPLES, name + ".soup")
+            again, reader = nelqubat.Reader.restore(image), nelqubat.Reader()
+            self.assertEqual((len(again.rows()), again.save()), (rows, image))
+            while rest and reader.next < again.next:
+                rest = rest[reader.run(rest, 1).taken:]
+            self.assertEqual(reader.save(), image)
+            self.assertEqual(self.numbers(again), self.numbers(reader))
 
     def refused_20(self, call, *arguments):
         with self.assertRaises(nelqubat.Refused) as caught:
@@ -242,7 +306,9 @@ class Sessions(unittest.TestCase):
         self.assertEqual(caught.exception.number, 20)
 
     def test_images_refused(self):
-        for image, number in ((b"", 21), (bytes(511), 21), (b"\x01" * 512, 22)):
+        most, block = nelqubat.IMAGE_BYTES, nelqubat.BLOCK_BYTES
+        for image, number in ((b"", 21), (bytes(511), 21), (b"\x01" * 512, 22), (bytes(512), 23), (bytes(most), 23),
+                              (bytes(most + block), 21), (text(SAMPLES, "rows-500.image") + bytes(block), 21)):
             with self.assertRaises(nelqubat.Refused) as caught:
                 nelqubat.Reader.restore(image)
             self.assertEqual(caught.exception.number, number)

@@ -1,7 +1,7 @@
 -- What the image of a table says: its header and its rows come back, and it keeps every rule.
 -- Assumes nothing.
 use mathlib.Core.Path.{_≡_, refl, sym, ap, _∙_}
-use mathlib.Core.Bool.{Bool, true, false}
+use mathlib.Core.Bool.{Bool, true, false, cond}
 use mathlib.Core.List.{List, _++_}
 use Prim.Native.Nat.{ℕ, zero, suc, _+_, _-_, _*_, _%_, _^_, _≤_, _<_}
 use native.Mathlib.Nat.{add-zero, zero-add, not-suc-le-zero}
@@ -21,7 +21,7 @@ use Rattle.block.proofs.Blocks.{same-head, head-read, check-here, body-here}
 use Rattle.row.specs.Fields.{rowSize}
 use Rattle.table.specs.Memory.{mostRows, tableSize, rowAt, row}
 use Rattle.table.specs.Rules.{rowsKeep}
-use Rattle.image.specs.Shape.{pagesFor, blocksFor, mostBlocks, versionFor, headFor, pages, firstPage}
+use Rattle.image.specs.Shape.{pagesFor, blocksFor, mostBlocks, rowsOfVersion1, versionFor, headFor, pages, firstPage}
 use Rattle.image.specs.Header.{headerKeeps, flag, sessionBytes, boardBytes, factsSize, firstBody, headerOf}
 use Rattle.image.specs.Save.{cleared, pageOf, bodyOf, savedBlock, blocks, imageOf}
 use Rattle.image.specs.Restore.{countOf, lengthKeeps, checksKeep, headKeeps, headsKeep, factsKeep, slotsKeep, contentsKeep, verdictOf, memoryOf}
@@ -44,7 +44,11 @@ pub record HeaderFits (h : Header) : Type 0 where
 
 version-fits : (rows : ℕ) → versionFor rows < 256 ^ 2
 unfolding versionFor
-version-fits rows = lit< tt
+version-fits rows = by (leb rows rowsOfVersion1)
+  where
+    by : (b : Bool) → cond b 1 2 < 256 ^ 2
+    by true = lit< tt
+    by false = lit< tt
 
 -- ---- the fields in the body of block 0
 

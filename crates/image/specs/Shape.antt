@@ -1,8 +1,9 @@
 -- The shape of a saved table: how many blocks it has, their heads, and the pages of rows in them.
 -- Assumes nothing.
 use Prim.Native.Nat.{ℕ, zero, suc, _+_, _-_, _*_, _/_, _%_, _≤_, _<_}
-use mathlib.Core.Bool.{Bool, true, _&&_}
+use mathlib.Core.Bool.{Bool, true, _&&_, cond}
 use mathlib.Core.List.{List, [], _++_}
+use lib.Dec.{leb}
 use lib.ListN.{length}
 use Rattle.field.specs.Bytes.{part}
 use Rattle.block.specs.Block.{blockSize, headSize, bodySize}
@@ -24,15 +25,18 @@ pagesFor rows = (rows + (pageRows - 1)) / pageRows
 unfoldable pub blocksFor : ℕ → ℕ
 blocksFor rows = 1 + pagesFor rows
 
--- 65 for the most rows
+-- 126 for the most rows
 abbrev pub mostBlocks : ℕ
 mostBlocks = 1 + mostRows / pageRows
 
 -- ---- the heads
 
--- version 1
+-- W-208: version 1 for up to 256 rows, as many as a table had before it; more rows carry version 2
+abbrev pub rowsOfVersion1 : ℕ
+rowsOfVersion1 = 256
+
 unfoldable pub versionFor : ℕ → ℕ
-versionFor rows = 1
+versionFor rows = cond (leb rows rowsOfVersion1) 1 2
 
 -- the head of block k among so many, of a table of so many rows
 unfoldable pub headFor : ℕ → ℕ → ℕ → ℕ → Head

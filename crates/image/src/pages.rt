@@ -11,6 +11,9 @@ ghost use Rattle.table.specs.Memory.{mostRows, tableSize};
 ghost use Rattle.image.specs.Shape.{pagesFor, blocksFor, mostBlocks, versionFor, headFor, pages, firstPage};
 ghost use Rattle.image.specs.Save.{pageOf, bodyOf, savedBlock, imageOf};
 
+// A table had at most so many rows before W-208.
+const ROWS_OF_VERSION_1: usize = 256;
+
 // In an image the first page is the body of block 1.
 pub const FIRST_PAGE: usize = block::BLOCK_SIZE + block::HEAD_SIZE;
 
@@ -21,11 +24,11 @@ pub fn blocks_for(rows: usize) -> usize
     1 + (rows + (crate::PAGE_ROWS - 1)) / crate::PAGE_ROWS
 }
 
-// More rows or other rules will bring other versions.
+// An image of more rows than tables had before W-208 carries another version.
 fn version_for(rows: usize) -> u16
     ensures { λ r. ⌜ r ≡ versionFor rows ⌝ }
 {
-    1
+    if rows <= ROWS_OF_VERSION_1 { 1 } else { 2 }
 }
 
 // The head of block k.

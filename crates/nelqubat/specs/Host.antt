@@ -144,4 +144,4 @@ walkedFind handle table id = cond (hostWithin handle table) (walkedNumber (rowFo
 
 -- that the header names too
 abbrev pub hostVersion : ℕ
-hostVersion = 4
+hostVersion = 5

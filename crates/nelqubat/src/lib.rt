@@ -27,7 +27,7 @@ ghost use Rattle.reader.specs.Running.{HostRuns, RunsOn};
 ghost use Rattle.nelqubat.specs.Host.{noHeld, HostStarts, StartsOn, HostRestores, RestoresOn, savedNumber, SavedFits, HostSaves, lineTo, shownTo, hostVersion, lineHost, FoundFits, foundNumber, findHost};
 
 // The header that the library goes with names the same version.
-const VERSION: u32 = 4;
+const VERSION: u32 = 5;
 
 #[no_mangle]
 pub extern "C" fn nelqubat_version() -> u32

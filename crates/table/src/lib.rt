@@ -7,7 +7,7 @@ ghost use Rattle.table.specs.Board.{refusalNumber, freshBoard, taken, de
 pub mod index;
 pub mod wire;
 
-pub const MOST_ROWS: usize = 256;
+pub const MOST_ROWS: usize = 500;
 
 pub const TABLE_SIZE: usize = MOST_ROWS * row::ROW_SIZE;
 
