@@ -12,5 +12,6 @@ pub mod Astray
 pub mod Cases
 pub mod Wrong
 pub mod Saved
+pub mod Before
 pub mod Stopped
 pub mod Resume

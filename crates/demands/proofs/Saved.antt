@@ -137,7 +137,7 @@ no-rows mem s =
     sym (part-all mem) ∙ (rw z at (s .blank)) ∙ ap (λ (n : ℕ). replicate n 0) (s .sized)
 
 -- a table with the index that is built of its rows
-abbrev indexed : ℕ → List ℕ → Memories
+abbrev pub indexed : ℕ → List ℕ → Memories
 indexed rows mem = memories mem (built rows indexSize mem)
 
 -- an unknown session is a fresh one
@@ -267,6 +267,18 @@ fresh-saves r t o e out room a z h =
     ap (λ (s : Saving). s .answer) (sym (saves-is r (t .table) out a z h (ours-within r t o)) ∙ saved)
     ∙ ap (λ (n : ℕ). Whole (sizeFor n)) (sym rows)
 
+-- what the image gives is what comes back
+pub gives : (bytes : List ℕ) (t : Memories) (q : Restored) (t₁ : Memories) → Restores bytes t q t₁ → length (t .index) ≡ indexSize → (h : Header) (mem : List ℕ)
+    → restoreOf bytes (t .table) ≡ restoring (images.restored verdict.Accepted h) mem
+    → (q .verdict ≡ verdict.Accepted) × (stateOf (q .reader) t₁ ≡ live (sessionOf (lineOf h) (h .board) (indexed (h .board .rows) mem)) [])
+gives bytes t q t₁ r i h mem e =
+    let v : q .verdict ≡ verdict.Accepted
+    = came-verdict bytes t q t₁ r (eq-eqb (length (t .index)) indexSize i) ∙ ap (λ (x : Restoring). x .answer .verdict) e in (
+      v,
+      came-state bytes t q t₁ r v
+          ∙ ap (λ (x : Restoring). live (sessionOf (lineOf (x .answer .header)) (x .answer .header .board) (indexed (x .answer .header .board .rows) (x .memory))) []) e,
+    )
+
 -- THEOREM: saving what our own calls make is not refused but where the output is too short
 pub ours-saved : (r : Reader) (t : Memories) → Ours r t → (out : List ℕ) → sizeFor (r .board .rows) ≤ length out → (a : Saved) (z : List ℕ)
     → Saves r (t .table) out a z → a ≡ Whole (sizeFor (r .board .rows))
@@ -294,6 +306,9 @@ ours-indexed r t o =
 
 module _ (r : Reader) (t : Memories) (o : Ours r t) (out : List ℕ) (room : sizeFor (r .board .rows) ≤ length out)
     (a : Saved) (z : List ℕ) (h : Saves r (t .table) out a z) where
+  pub was-saved : saveOf (headerOf r) (t .table) out ≡ saving (Whole (sizeFor (r .board .rows))) z
+  was-saved = saves-is r (t .table) out a z h (ours-within r t o) ∙ ap (λ (b : Saved). saving b z) (ours-saved r t o out room a z h)
+
   -- THEOREM: SAVE, THEN RESTORE. From any handle of ours it is not refused; it gives the same table and the same index, and a reader that waits for a
   -- login to the session, or a fresh one where no session is known.
   pub comes-back : (t₀ : Memories) → length (t₀ .table) ≡ tableSize → length (t₀ .index) ≡ indexSize → (q : Restored) (t₁ : Memories)
@@ -301,18 +316,11 @@ module _ (r : Reader) (t : Memories) (o : Ours r t) (out : List ℕ) (room : siz
       → (q .verdict ≡ verdict.Accepted) × (stateOf (q .reader) t₁ ≡ live (sessionOf (lineOf (headerOf r)) (r .board) t) [])
   comes-back t₀ l i q t₁ g =
       let n = sizeFor (r .board .rows) in
-      let whole : saveOf (headerOf r) (t .table) out ≡ saving (Whole n) z
-      = saves-is r (t .table) out a z h (ours-within r t o) ∙ ap (λ (b : Saved). saving b z) (ours-saved r t o out room a z h) in
       let back : restoreOf (part z 0 n) (t₀ .table) ≡ restoring (images.restored verdict.Accepted (headerOf r)) (t .table)
-      = saved-restored (headerOf r) (t .table) out (t₀ .table) z n (o .sound .ten) l whole
+      = saved-restored (headerOf r) (t .table) out (t₀ .table) z n (o .sound .ten) l was-saved
       ∙ ap (restoring (images.restored verdict.Accepted (headerOf r))) (ours-cleared r t o) in
-      let v : q .verdict ≡ verdict.Accepted
-      = came-verdict (part z 0 n) t₀ q t₁ g (eq-eqb (length (t₀ .index)) indexSize i) ∙ ap (λ (x : Restoring). x .answer .verdict) back in (
-        v,
-        came-state (part z 0 n) t₀ q t₁ g v
-            ∙ ap (λ (x : Restoring). live (sessionOf (lineOf (x .answer .header)) (x .answer .header .board) (indexed (x .answer .header .board .rows) (x .memory))) []) back
-            ∙ ap (λ (x : Memories). live (sessionOf (lineOf (headerOf r)) (r .board) x) []) (ours-indexed r t o),
-      )
+      let come = gives (part z 0 n) t₀ q t₁ g i (headerOf r) (t .table) back in
+      (come .0, come .1 ∙ ap (λ (x : Memories). live (sessionOf (lineOf (headerOf r)) (r .board) x) []) (ours-indexed r t o))
 
 -- the header that is saved of a line and a board
 abbrev headed : Line → Board → Header

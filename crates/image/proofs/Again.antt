@@ -39,7 +39,7 @@ use Rattle.image.proofs.Zeros.{zeros-are, cleared-own}
 
 -- ---- what acceptance says, test by test
 
-accepted-if : (b : Bool) (v : Verdict) (r : Refusal) → cond b v (Refused r) ≡ Accepted → (b ≡ true) × (v ≡ Accepted)
+pub accepted-if : (b : Bool) (v : Verdict) (r : Refusal) → cond b v (Refused r) ≡ Accepted → (b ≡ true) × (v ≡ Accepted)
 accepted-if true v r e = (refl, e)
 accepted-if false v r e = let z : Refused r ≡ Accepted = e in (cc, cc)
 

@@ -13,3 +13,4 @@ pub mod Rounds
 pub mod Verdicts
 pub mod Made
 pub mod Fresh
+pub mod Before

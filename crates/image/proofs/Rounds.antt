@@ -37,7 +37,7 @@ use Rattle.image.proofs.Again.{kept, count-is, header-good, next-good, 
 
 -- ---- what it means that a table was saved
 
-whole-if : (b : Bool) (v : Saving) (r : Refusal) (o z : List ℕ) (n : ℕ) → cond b v (unsaved r o) ≡ saving (Whole n) z → (b ≡ true) × (v ≡ saving (Whole n) z)
+pub whole-if : (b : Bool) (v : Saving) (r : Refusal) (o z : List ℕ) (n : ℕ) → cond b v (unsaved r o) ≡ saving (Whole n) z → (b ≡ true) × (v ≡ saving (Whole n) z)
 whole-if true v r o z n e = (refl, e)
 whole-if false v r o z n e =
     let y : Unsaved r ≡ Whole n = ap (λ (w : Saving). w .answer) e in let x : _≡_ {A = ℕ} 0 1 = cc in absurd (omega arith)

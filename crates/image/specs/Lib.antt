@@ -3,3 +3,4 @@ pub mod Ids
 pub mod Header
 pub mod Save
 pub mod Restore
+pub mod Before
