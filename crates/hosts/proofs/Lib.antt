@@ -5,4 +5,5 @@ pub mod Refused
 pub mod Astray
 pub mod Found
 pub mod Resume
+pub mod Before
 pub mod Wrong

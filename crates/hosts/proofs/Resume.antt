@@ -74,7 +74,7 @@ module _ (hm : List ℕ) (tm : Memories) (image : List ℕ) (a : ℕ) (handle : 
     unfolding restoreAll
     comes = rw index-long
 
-    restored-is : left a handle memory ≡ unheld (restoreNumber (came .verdict)) (live session₁ []) 0
+    pub restored-is : left a handle memory ≡ unheld (restoreNumber (came .verdict)) (live session₁ []) 0
     unfolding restoreHost
     restored-is = (rw handle-long at restore) ∙ ap restoredAs (sym comes)
 

@@ -28,7 +28,7 @@ unfinished bs = isShort (frame bs)
 unfoldable pub holdsUnfinished : Reader → Bool
 holdsUnfinished r = leb (r .used) heldSize && unfinished (heldOf r)
 
--- memory of the right length and at most 256 rows; the next number; what is held; a standing refusal
+-- memory of the right length and no more rows than it has; the next number; what is held; a standing refusal
 unfoldable pub withinLimits : Reader → List ℕ → Bool
 withinLimits r memory =
     fits (r .board) memory && (numberInRange (r .line .next) && (holdsUnfinished r && standing (r .refusal)))
