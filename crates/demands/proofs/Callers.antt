@@ -12,6 +12,7 @@ use Rattle.field.specs.Bytes.{Bytes}
 use Rattle.field.proofs.Bools.{both-left, both-right}
 use Rattle.message.specs.Letters.{listed}
 use Rattle.packet.specs.Frame.{short, frame}
+use Rattle.packet.specs.Line.{freshLine}
 use Rattle.packet.specs.Stream as stream
 use Rattle.packet.specs.Stream.{State, live, NothingLeft, reading, eventsOf, Called, stepOf}
 use Rattle.packet.specs.Session.{Session, Event, soupBinTCP}
@@ -107,25 +108,30 @@ begin-sound =
       whose = inr refl;
     }
 
--- the code's answer is that the reader is ready: memory was of the right length
-ready : (t : Memories) (s : Started) (t′ : Memories) → Starting t s t′ → s .answer ≡ Ready → (y : Bool) → isLent t ≡ y
-    → (o : Indexed)
+-- the code's answer is that the reader is ready: memory was of the right length. The sizes are any, so that no list of zeros is made for them.
+ready : (n m : ℕ) (t : Memories) (s : Started) (t′ : Memories) → (isLent t ≡ true → (length (t .table) ≡ n) × (length (t .index) ≡ m))
+    → s .answer ≡ Ready → (y : Bool) → isLent t ≡ y → (o : Indexed)
     → o ≡ cond y (beside (replicate (length (t .index)) 0) (accepted freshBoard (replicate (length (t .table)) 0))) (refusedBeside Unfit freshBoard t)
     → begunOf s t′ ≡ record { state = live (freshOn o) []; used = 0; refusal = verdictNumber (o .outcome .applied .verdict) }
-    → (stateOf (s .reader) t′ ≡ live begin []) × (s .reader .used ≡ 0)
-ready t s t′ h a true e o f g =
-    let n : length (t .table) ≡ tableSize = eqb-true (length (t .table)) tableSize (both-left (isTable (t .table)) (isIndex (t .index)) e) in
-    let m : length (t .index) ≡ indexSize = eqb-true (length (t .index)) indexSize (both-right (isTable (t .table)) (isIndex (t .index)) e) in
-    (ap (λ (q : Begun). q .state) g ∙ rw (f, n, m), ap (λ (q : Begun). q .used) g)
-ready t s t′ h a false e o f g =
+    → (stateOf (s .reader) t′ ≡ live (sessionOf freshLine freshBoard (memories (replicate n 0) (replicate m 0))) []) × (s .reader .used ≡ 0)
+ready n m t s t′ sizes a true e o f g =
+    let z = sizes e in
+    (ap (λ (q : Begun). q .state) g ∙ rw (f, z .0, z .1), ap (λ (q : Begun). q .used) g)
+ready n m t s t′ sizes a false e o f g =
     let z : startNumber (s .answer) ≡ 20 = ap (λ (q : Begun). q .refusal) g ∙ rw f in
     let w : _≡_ {A = ℕ} 0 20 = ap startNumber (sym a) ∙ z in
     absurd (omega arith)
 
+lent-sizes : (t : Memories) → isLent t ≡ true → (length (t .table) ≡ tableSize) × (length (t .index) ≡ indexSize)
+lent-sizes t e = (
+  eqb-true (length (t .table)) tableSize (both-left (isTable (t .table)) (isIndex (t .index)) e),
+  eqb-true (length (t .index)) indexSize (both-right (isTable (t .table)) (isIndex (t .index)) e),
+)
+
 module _ (t : Memories) (s : Started) (t₁ : Memories) (h : Starting t s t₁) (a : s .answer ≡ Ready) where
   pub started : (stateOf (s .reader) t₁ ≡ live begin []) × (s .reader .used ≡ 0)
   unfolding startAll startOf
-  started = ready t s t₁ h a (isLent t) refl (startOf t) refl h
+  started = ready tableSize indexSize t s t₁ (lent-sizes t) a (isLent t) refl (startOf t) refl h
 
   -- THEOREM: a reader that was started without refusal is ours
   pub start-ours : Ours (s .reader) t₁
