@@ -126,6 +126,11 @@ static void make_newcomers(size_t scale)
     work.times = scale / USUAL;
 }
 
+static void make_starts(size_t scale)
+{
+    work.units = scale / 50;
+}
+
 static void read_plain_session(void);
 
 /* A table of rows with quotes, in both readers' memory and as an image. */
@@ -219,6 +224,20 @@ static void read_plain_session(void)
     }
     need_whole("the plain reader", at);
     work.units = (size_t)reader.next - 1;
+}
+
+/* A start clears the memories; every session begins with one, and its instructions
+ * are counted with those of the messages. */
+static void start_library(void)
+{
+    for (size_t i = 0; i < work.units; i++)
+        nelqubat_start(handle, sizeof handle, table, sizeof table, id_index, sizeof id_index);
+}
+
+static void start_plain(void)
+{
+    for (size_t i = 0; i < work.units; i++)
+        plain_start(&reader, plain_table, sizeof plain_table, plain_index, sizeof plain_index);
 }
 
 /* The same session by runs, with no events told. */
@@ -356,6 +375,7 @@ static const struct task {
     void (*library)(void);
     void (*plain)(void);
 } tasks[] = {
+    {"start", "starting, with memories for 500 instruments", "starts", make_starts, start_library, start_plain},
     {"quotes", "quotes, 256 instruments, whole piece", "messages", make_quotes,
      read_library_session, read_plain_session},
     {"run", "quotes, 256 instruments, whole piece, by runs of 1,000 packets", "messages", make_quotes,
