@@ -1,7 +1,7 @@
 -- W-208 LOSES NO SAVED TABLE: by the calls of a reader, what was made or accepted before it is restored, to the same table and state, and saved again to
 -- the same bytes; and what a reader of before answers to what is saved now.
 -- Assumes nothing.
-use mathlib.Core.Path.{_≡_, sym, ap, _∙_, subst}
+use mathlib.Core.Path.{_≡_, subst}
 use mathlib.Core.List.{List, []}
 use Prim.Native.Nat.{ℕ, _≤_, _<_}
 use lib.ListN.{length, replicate, length-replicate}
@@ -11,9 +11,9 @@ use Rattle.table.specs.Memory.{tableSize, Memories}
 use Rattle.table.specs.Index.{indexSize}
 use Rattle.image.specs.Shape.{rowsOfVersion1}
 use Rattle.image.specs.Header as headers
-use Rattle.image.specs.Save.{cleared, saving, sizeFor, saveOf}
+use Rattle.image.specs.Save.{cleared, saving, sizeFor}
 use Rattle.image.specs.Restore as images
-use Rattle.image.specs.Restore.{restoring, restoreOf, verdictOf}
+use Rattle.image.specs.Restore.{restoring, verdictOf}
 use Rattle.image.specs.Before.{widened, verdictBefore, restoreBefore, clearedBefore, saveBefore}
 use Rattle.image.specs.declared.Header.{Header}
 use Rattle.image.specs.declared.Refusal.the-variants.{BadLength}

@@ -3,9 +3,8 @@
 -- Assumes nothing.
 use mathlib.Core.Path.{_≡_, refl, sym, ap, _∙_}
 use mathlib.Core.Bool.{Bool, true, false, _&&_, cond, and-false}
-use mathlib.Core.List.{List, [], _++_, append-assoc}
-use Prim.Native.Nat.{ℕ, zero, suc, _+_, _-_, _*_, _/_, _%_, _≤_, _<_}
-use native.Mathlib.Nat.{zero-add}
+use mathlib.Core.List.{List, _++_, append-assoc}
+use Prim.Native.Nat.{ℕ, zero, suc, _+_, _-_, _*_, _%_, _≤_, _<_}
 use native.Mathlib.Omega.{arith}
 use lib.Dec.{eqb, leb}
 use lib.ListN.{length, replicate, length-append, length-replicate, replicate-append-replicate}
@@ -15,14 +14,13 @@ use Rattle.field.specs.Limits.{numberInRange}
 use Rattle.field.proofs.Bools.{both-left, both-right}
 use Rattle.field.proofs.Parts.{part-length}
 use Rattle.message.proofs.Layouts.{never}
-use Rattle.block.specs.Block.{blockSize, bodySize, headAt, sameHead, blockOf}
-use Rattle.block.specs.declared.Head.{Head}
+use Rattle.block.specs.Block.{blockSize, bodySize, headAt, sameHead}
 use Rattle.block.proofs.Joins.{part-first}
 use Rattle.row.specs.Fields.{rowSize}
-use Rattle.table.specs.Memory.{mostRows, tableSize, isTable, rowAt, row}
+use Rattle.table.specs.Memory.{mostRows, tableSize, rowAt, row}
 use Rattle.table.specs.Board.{fits}
 use Rattle.table.specs.Rules.{rowsKeep}
-use Rattle.image.specs.Shape.{pagesFor, blocksFor, mostBlocks, rowsOfVersion1, versionFor, headFor, pages, firstPage, allBelow}
+use Rattle.image.specs.Shape.{pagesFor, blocksFor, mostBlocks, rowsOfVersion1, versionFor, headFor, pages, firstPage}
 use Rattle.image.specs.Header.{withinLimits, headerKeeps, headerOf}
 use Rattle.image.specs.Save.{cleared, pageOf, bodyOf, savedBlock, blocks, imageOf, saving, saveOf}
 use Rattle.image.specs.Restore.{countOf, lengthKeeps, checksKeep, headKeeps, headsKeep, factsKeep, slotsKeep, contentsKeep, verdictOf, memoryOf, Restoring, restored, restoring, restoreOf, restoredBy}
@@ -34,7 +32,7 @@ use Rattle.image.specs.declared.Verdict.{Verdict}
 use Rattle.image.specs.declared.Verdict.the-variants.{Accepted, Refused}
 use Rattle.image.proofs.Below.{below-same}
 use Rattle.image.proofs.Walk.{rows-equal}
-use Rattle.image.proofs.Again.{accepted-if, Kept, kept, count-is}
+use Rattle.image.proofs.Again.{accepted-if, kept, count-is}
 use Rattle.image.proofs.Rounds.{whole-if, saved-restored, restored-saved}
 
 -- ---- versions

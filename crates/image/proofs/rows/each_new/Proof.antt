@@ -34,9 +34,6 @@ read4-requires c κs = let s = c .before .before .before .before .before .before
 enter-requires : tie.Need-enter-requires Inv-loop μ-loop
 enter-requires c κs = (c .before .before .before .before .loop .inv .2 .rising, search needs)
 
-same-length : tie.Need-same-length Inv-loop μ-loop
-same-length c = search needs
-
 returns : tie.Need-returns Inv-loop μ-loop
 returns c = search (id-twice, id-there)
 
@@ -49,4 +46,4 @@ returns-2 c = search below-end
 pub each-new-spec : {M : Type 1} → statement M
 each-new-spec =
     tie.close
-    (tie.spec Inv-loop μ-loop loop-holds place-requires read4-requires enter-requires same-length returns (λ c. search needs) (λ c. search needs) loop-again (λ c. search needs) returns-2)
+    (tie.spec Inv-loop μ-loop loop-holds place-requires read4-requires enter-requires (λ c. search needs) returns (λ c. search needs) (λ c. search needs) loop-again (λ c. search needs) returns-2)
