@@ -113,7 +113,7 @@ module _ (k : ℕ) (mem xs ys : List ℕ) (id : ℕ) (r : Bool) (here : Gathered
   was-there f = by r e f
     where
       by : (r : Bool) → Entered k id xs ys r → not r ≡ true → Among k xs id
-      by false a g = a
+      by false a g = a .0
       by true w g = never g
 
   was-new : not r ≡ false → With k id xs ys
