@@ -20,8 +20,8 @@
 enum { TURNS = 11, MESSAGES = 1000 };
 
 /* Instruments of a case. The first number stays, so that its lines in
- * docs/PERFORMANCE.md can be compared; the cases wide, save500 and restore500 have the
- * second. */
+ * docs/PERFORMANCE.md can be compared; the cases wide, save500, restore500, forward500
+ * and back500 have the second. */
 enum { USUAL = 256, WIDE = 500 };
 
 _Static_assert((int)WIDE <= (int)NELQUBAT_MAX_ROWS, "a wide session fits the table");
@@ -153,6 +153,25 @@ static void make_table(size_t scale)
 static void make_wide_table(size_t scale)
 {
     make_rows(WIDE, scale);
+}
+
+/* The same image without the times of its sides. */
+static void age_work(void)
+{
+    struct bytes image = {work.image, work.image_n, sizeof work.image};
+    age_image(&image);
+}
+
+static void make_old(size_t scale)
+{
+    make_table(scale);
+    age_work();
+}
+
+static void make_wide_old(size_t scale)
+{
+    make_wide_table(scale);
+    age_work();
 }
 
 /* The usual image with its last check wrong: every block's check is made, and
@@ -316,6 +335,50 @@ static void restore_plain(void)
                       work.image, work.image_n);
 }
 
+/* A move that is refused has less to do. */
+static void need_moved(const char *reader_name, unsigned refusal)
+{
+    if (refusal == NELQUBAT_DONE)
+        return;
+    fprintf(stderr, "bench: %s answers %u to a move\n", reader_name, refusal);
+    exit(2);
+}
+
+static void move_library(uint32_t (*move)(const uint8_t *, size_t, uint8_t *, size_t))
+{
+    static uint8_t out[NELQUBAT_IMAGE_BYTES];
+    for (size_t i = 0; i < work.units; i++)
+        need_moved("the library", nelqubat_refusal(move(work.image, work.image_n, out, sizeof out)));
+}
+
+static void move_plain(int (*move)(const uint8_t *, size_t, uint8_t *, size_t, size_t *))
+{
+    static uint8_t out[PLAIN_IMAGE_BYTES];
+    size_t n;
+    for (size_t i = 0; i < work.units; i++)
+        need_moved("the plain reader", (unsigned)move(work.image, work.image_n, out, sizeof out, &n));
+}
+
+static void forward_library(void)
+{
+    move_library(nelqubat_forward);
+}
+
+static void forward_plain(void)
+{
+    move_plain(plain_forward);
+}
+
+static void back_library(void)
+{
+    move_library(nelqubat_back);
+}
+
+static void back_plain(void)
+{
+    move_plain(plain_back);
+}
+
 static void need_bad_check(const char *reader_name, unsigned refusal)
 {
     if (refusal == NELQUBAT_REFUSED_CHECK)
@@ -390,10 +453,14 @@ static const struct task {
      list_library, list_plain},
     {"save", "saving 256 rows", "tables", make_table, save_library, save_plain},
     {"restore", "restoring 256 rows", "tables", make_table, restore_library, restore_plain},
+    {"forward", "moving 256 rows forward", "images", make_old, forward_library, forward_plain},
+    {"back", "moving 256 rows back", "images", make_table, back_library, back_plain},
     {"wide", "quotes, 500 instruments, whole piece", "messages", make_quotes_wide,
      read_library_session, read_plain_session},
     {"save500", "saving 500 rows", "tables", make_wide_table, save_library, save_plain},
     {"restore500", "restoring 500 rows", "tables", make_wide_table, restore_library, restore_plain},
+    {"forward500", "moving 500 rows forward", "images", make_wide_old, forward_library, forward_plain},
+    {"back500", "moving 500 rows back", "images", make_wide_table, back_library, back_plain},
     {"check", "the checks of 65 blocks, the last one wrong", "blocks", make_bad_check, check_library,
      check_plain},
     {"read", "reading messages of every letter", "messages", make_messages, read_library, read_plain},

@@ -21,14 +21,14 @@ enum {
     SESSION_ROOM = 1024 + NELQUBAT_MAX_ROWS * 128 + PACKETS * NELQUBAT_PACKET_BYTES + DAMAGE_ROOM
 };
 
-enum call { NONE, START, STEP, RUN, SAVE, RESTORE, READ, WRITE, LINE, FIND, CALLS };
+enum call { NONE, START, STEP, RUN, SAVE, RESTORE, FORWARD, BACK, READ, WRITE, LINE, FIND, CALLS };
 
 static const char *const names[CALLS] = {
-    "nothing", "start", "step", "run", "save", "restore", "read", "write", "line", "find"};
+    "nothing", "start", "step", "run", "save", "restore", "forward", "back", "read", "write", "line", "find"};
 
 static uint8_t handle[NELQUBAT_HANDLE_BYTES], table[NELQUBAT_TABLE_BYTES], id_index[NELQUBAT_INDEX_BYTES];
 static uint8_t event[NELQUBAT_RECORD_BYTES], record[NELQUBAT_RECORD_BYTES];
-static uint8_t image[NELQUBAT_IMAGE_BYTES + NELQUBAT_BLOCK_BYTES];
+static uint8_t image[NELQUBAT_IMAGE_BYTES + NELQUBAT_BLOCK_BYTES], moved[NELQUBAT_IMAGE_BYTES];
 static uint8_t stack[STACK];
 static size_t most[CALLS];
 
@@ -41,44 +41,50 @@ static struct {
     uint64_t answer;
 } work;
 
-static void make_call(void)
+/* The calls that need no reader. */
+static uint64_t call_alone(const uint8_t *in, size_t n)
 {
-    const uint8_t *in = work.input;
-    size_t n = work.n;
+    switch (work.call) {
+    case FORWARD:
+        return nelqubat_forward(in, n, moved, sizeof moved);
+    case BACK:
+        return nelqubat_back(in, n, moved, sizeof moved);
+    case READ:
+        return nelqubat_read(in, n, record, sizeof record);
+    default:
+        return nelqubat_write(in, n, image, NELQUBAT_MESSAGE_BYTES);
+    }
+}
+
+static uint64_t call_one(const uint8_t *in, size_t n)
+{
     switch (work.call) {
     case NONE:
-        break;
+        return 0;
     case START:
-        work.answer = nelqubat_start(handle, sizeof handle, table, sizeof table, id_index, sizeof id_index);
-        break;
+        return nelqubat_start(handle, sizeof handle, table, sizeof table, id_index, sizeof id_index);
     case STEP:
-        work.answer = nelqubat_step(handle, sizeof handle, table, sizeof table, id_index, sizeof id_index, in, n,
-                                    event, sizeof event);
-        break;
+        return nelqubat_step(handle, sizeof handle, table, sizeof table, id_index, sizeof id_index, in, n, event,
+                             sizeof event);
     case RUN:
-        work.answer = nelqubat_run(handle, sizeof handle, table, sizeof table, id_index, sizeof id_index, in, n,
-                                   work.ceiling);
-        break;
+        return nelqubat_run(handle, sizeof handle, table, sizeof table, id_index, sizeof id_index, in, n,
+                            work.ceiling);
     case SAVE:
-        work.answer = nelqubat_save(handle, sizeof handle, table, sizeof table, image, NELQUBAT_IMAGE_BYTES);
-        break;
+        return nelqubat_save(handle, sizeof handle, table, sizeof table, image, NELQUBAT_IMAGE_BYTES);
     case RESTORE:
-        work.answer = nelqubat_restore(handle, sizeof handle, table, sizeof table, id_index, sizeof id_index, in, n);
-        break;
-    case READ:
-        work.answer = nelqubat_read(in, n, record, sizeof record);
-        break;
-    case WRITE:
-        work.answer = nelqubat_write(in, n, image, NELQUBAT_MESSAGE_BYTES);
-        break;
+        return nelqubat_restore(handle, sizeof handle, table, sizeof table, id_index, sizeof id_index, in, n);
+    case LINE:
+        return nelqubat_line(handle, sizeof handle, table, sizeof table, n, image, NELQUBAT_LINE_BYTES);
     case FIND:
-        work.answer = nelqubat_find(handle, sizeof handle, table, sizeof table, id_index, sizeof id_index,
-                                    (uint32_t)n);
-        break;
+        return nelqubat_find(handle, sizeof handle, table, sizeof table, id_index, sizeof id_index, (uint32_t)n);
     default:
-        work.answer = nelqubat_line(handle, sizeof handle, table, sizeof table, n, image, NELQUBAT_LINE_BYTES);
-        break;
+        return call_alone(in, n);
     }
+}
+
+static void make_call(void)
+{
+    work.answer = call_one(work.input, work.n);
 }
 
 /* Makes the call on the painted stack; what is touched of it counts from its
@@ -158,6 +164,8 @@ static void measure_image(struct dice *d, bool damaged)
     make_image(d, &s);
     if (damaged)
         damage_image(d, (enum image_damage)dice_below(d, IMAGE_DAMAGES), &s);
+    measure(FORWARD, s.at, s.n);
+    measure(BACK, s.at, s.n);
     measure(RESTORE, s.at, s.n);
     measure(SAVE, NULL, 0);
 }

@@ -16,6 +16,8 @@ struct calls {
     uint32_t (*save)(const uint8_t *, size_t, const uint8_t *, size_t, uint8_t *, size_t);
     uint32_t (*restore)(uint8_t *, size_t, uint8_t *, size_t, uint8_t *, size_t,
                         const uint8_t *, size_t);
+    uint32_t (*forward)(const uint8_t *, size_t, uint8_t *, size_t);
+    uint32_t (*back)(const uint8_t *, size_t, uint8_t *, size_t);
     uint32_t (*read)(const uint8_t *, size_t, uint8_t *, size_t);
     uint32_t (*write)(const uint8_t *, size_t, uint8_t *, size_t);
     uint32_t (*line)(const uint8_t *, size_t, const uint8_t *, size_t, size_t,

@@ -398,6 +398,23 @@ void make_quote_case(struct dice *d, bool damaged, struct script *s, struct tall
     t->damaged += damaged;
 }
 
+void make_time_case(struct dice *d, bool damaged, struct script *s, struct tally *t)
+{
+    struct plain_reader r;
+    uint8_t space[4 * NELQUBAT_PACKET_BYTES];
+    struct bytes packets = {space, 0, sizeof space};
+    script_clear(s);
+    make_timed(d, damaged, &r, s->table, &packets);
+    make_index(s->table, r.rows, s->index);
+    oracle_pack_handle(&r, s->handle);
+    if (damaged || dice_chance(d, 20))
+        script_add(s, usual_call(CALL_SAVE), NULL, 0);
+    add_pieces(d, packets.at, packets.n, dice_chance(d, 30), s);
+    add_save(d, dice_chance(d, 50) ? CALL_SAVE : CALL_RESUME, s);
+    t->handles++;
+    t->damaged += damaged;
+}
+
 /* Indexes. */
 
 /* An id beside one that is there, at an end, or any. */
@@ -532,8 +549,10 @@ static void make_any_image(struct dice *d, bool damaged, struct bytes *image)
         make_any_blocks(d, image);
     } else if (dice_chance(d, 30)) {
         edge_image(d, image);
-    } else if (dice_chance(d, 20)) {
+    } else if (dice_chance(d, 30)) {
         damage_image(d, (enum image_damage)dice_between(d, IMAGE_VERSION, IMAGE_NAMED), image);
+    } else if (dice_chance(d, 25)) {
+        damage_image(d, IMAGE_TIME, image);
     } else {
         damage_image(d, (enum image_damage)dice_below(d, IMAGE_DAMAGES), image);
     }
@@ -577,6 +596,37 @@ void make_image_case(struct dice *d, bool damaged, struct script *s, struct tall
     dice_fill(d, piece, sizeof piece);
     if (dice_chance(d, 20))
         script_add(s, usual_call(CALL_FEED), piece, sizeof piece);
+    t->images++;
+    t->damaged += damaged;
+}
+
+/* Moves. */
+
+/* Output memory for a move: as long as the image, about so, or much. A round goes the way
+ * that the image's version asks for, or now and then back first. */
+static void add_move(struct dice *d, enum operation op, const struct bytes *image, struct script *s)
+{
+    enum { AT_VERSION = 4 };
+    struct call c = usual_call(op);
+    size_t length = make_length(d, image->n);
+    if (dice_chance(d, 80))
+        c.memory_n = (uint32_t)(length < IMAGE_ROOM ? length : IMAGE_ROOM);
+    c.k = dice_chance(d, 20) || nelqubat_get(image->at + AT_VERSION, 2) == PLAIN_VERSION_TIMED;
+    script_add(s, c, image->at, image->n);
+}
+
+void make_move_case(struct dice *d, bool damaged, struct script *s, struct tally *t)
+{
+    static uint8_t space[NELQUBAT_IMAGE_BYTES + NELQUBAT_BLOCK_BYTES];
+    struct bytes image = {space, 0, sizeof space};
+    make_any_image(d, damaged, &image);
+    script_clear(s);
+    dice_fill(d, s->handle, sizeof s->handle);
+    add_move(d, CALL_FORWARD, &image, s);
+    add_move(d, CALL_BACK, &image, s);
+    add_move(d, CALL_ROUND, &image, s);
+    if (dice_chance(d, 30))
+        add_save(d, dice_chance(d, 50) ? CALL_SAVE : CALL_RESUME, s);
     t->images++;
     t->damaged += damaged;
 }

@@ -24,12 +24,19 @@ void make_handle_case(struct dice *d, bool damaged, struct script *s, struct tal
  * row's state or tradable is a byte outside its list. */
 void make_quote_case(struct dice *d, bool damaged, struct script *s, struct tally *t);
 
+/* Quotes and a purge of a row whose sides were set at any times, and the table saved;
+ * where damaged, one of those times breaks its rule. */
+void make_time_case(struct dice *d, bool damaged, struct script *s, struct tally *t);
+
 /* A table with a true index, or where damaged a false one, and calls that search
  * it. */
 void make_index_case(struct dice *d, bool damaged, struct script *s, struct tally *t);
 
 /* An image restored, then stepped on from, saved and listed. */
 void make_image_case(struct dice *d, bool damaged, struct script *s, struct tally *t);
+
+/* An image moved both ways, then moved there and back and restored from both versions. */
+void make_move_case(struct dice *d, bool damaged, struct script *s, struct tally *t);
 
 /* Sixteen messages or records, read and written. */
 void make_record_case(struct dice *d, bool damaged, struct script *s, struct tally *t);

@@ -1,6 +1,6 @@
 /* Holds the library against the plain reader over random cases: sessions cut
- * at random, by steps and by runs, handles, indexes, images and records, true and
- * damaged.
+ * at random, by steps and by runs, handles, indexes, times of sides, images restored
+ * and moved, and records, true and damaged.
  *
  *   compare [SEED [ROUNDS]]    a round's seed is SEED plus its place
  *   compare --replay FILE      runs a case that was written on a difference
@@ -66,7 +66,7 @@ static bool run_cases(struct dice *d, case_maker *make, bool damaged, unsigned t
     return true;
 }
 
-/* One round: 48 damaged inputs and nearly a thousand packets. */
+/* One round: 56 damaged inputs and about a thousand packets. */
 static bool run_round(uint64_t seed)
 {
     struct dice d = dice_seeded(seed);
@@ -78,10 +78,14 @@ static bool run_round(uint64_t seed)
            run_cases(&d, make_handle_case, true, 8) &&
            run_cases(&d, make_image_case, false, 1) &&
            run_cases(&d, make_image_case, true, 5) &&
+           run_cases(&d, make_move_case, false, 2) &&
+           run_cases(&d, make_move_case, true, 5) &&
            run_cases(&d, make_record_case, false, 1) &&
            run_cases(&d, make_record_case, true, 1) &&
            run_cases(&d, make_quote_case, false, 3) &&
            run_cases(&d, make_quote_case, true, 1) &&
+           run_cases(&d, make_time_case, false, 4) &&
+           run_cases(&d, make_time_case, true, 3) &&
            run_cases(&d, make_index_case, false, 2) &&
            run_cases(&d, make_index_case, true, 8) &&
            run_cases(&d, make_run_case, false, 1) &&

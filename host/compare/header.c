@@ -29,7 +29,7 @@ static void equal_at(int line, uint64_t got, uint64_t wanted)
 /* The library's memory, and the plain reader's. */
 static uint8_t handle[NELQUBAT_HANDLE_BYTES], table[NELQUBAT_TABLE_BYTES], id_index[NELQUBAT_INDEX_BYTES];
 static uint8_t event[NELQUBAT_RECORD_BYTES], record[NELQUBAT_RECORD_BYTES];
-static uint8_t image[NELQUBAT_IMAGE_BYTES + NELQUBAT_BLOCK_BYTES];
+static uint8_t image[NELQUBAT_IMAGE_BYTES + NELQUBAT_BLOCK_BYTES], moved[NELQUBAT_IMAGE_BYTES];
 static struct plain_reader reader;
 static uint8_t plain_table[PLAIN_TABLE_BYTES], plain_index[PLAIN_INDEX_BYTES];
 
@@ -59,7 +59,7 @@ static uint32_t restore(size_t n)
 
 static void test_written_sizes(void)
 {
-    EQUAL(NELQUBAT_VERSION, 5);
+    EQUAL(NELQUBAT_VERSION, 6);
     EQUAL(NELQUBAT_MAX_ROWS, 500);
     EQUAL(NELQUBAT_ROW_BYTES, 124);
     EQUAL(NELQUBAT_TABLE_BYTES, 62000);
@@ -352,6 +352,44 @@ static void test_row_prices(void)
     }
 }
 
+/* Where the times of the sides stand, and what the helpers say of them: the number, and
+ * whether the side was seen and the number is a time. */
+static void same_times(const uint8_t *row)
+{
+    uint64_t bid = get_number(row + 106, 8), ask = get_number(row + 114, 8);
+    EQUAL(nelqubat_row_bid_time(row), bid);
+    EQUAL(nelqubat_row_ask_time(row), ask);
+    EQUAL(nelqubat_row_knows_bid_time(row), row[54] % 2 == 1 && bid != PLAIN_UNKNOWN_TIME);
+    EQUAL(nelqubat_row_knows_ask_time(row), row[54] / 2 % 2 == 1 && ask != PLAIN_UNKNOWN_TIME);
+}
+
+/* Any sides seen, with times 0, 1, the last of a day, unknown and beside it. */
+static void test_row_times(void)
+{
+    static const uint64_t times[] = {0, 1, PLAIN_MAX_TIME, UINT64_MAX, UINT64_MAX - 1, UINT64_MAX >> 1};
+    uint8_t row[PLAIN_ROW_BYTES];
+    EQUAL(NELQUBAT_ROW_BID_TIME, 106);
+    EQUAL(NELQUBAT_ROW_ASK_TIME, 114);
+    EQUAL(NELQUBAT_TIME_UNKNOWN, UINT64_MAX);
+    memset(row, 0xAA, sizeof row);
+    for (unsigned i = 0; i < 256 * 36; i++) {
+        row[ROW_SIDES] = (uint8_t)(i / 36);
+        set_number(row + 106, 8, times[i / 6 % 6]);
+        set_number(row + 114, 8, times[i % 6]);
+        same_times(row);
+    }
+}
+
+/* The three that a side can be, each told from the others: in the order of the bid
+ * and the ask, never quoted, at an unknown time, at a known one. */
+static void sides_are(const uint8_t *row, const char *words)
+{
+    char bid = !nelqubat_row_seen_bid(row) ? '-' : nelqubat_row_knows_bid_time(row) ? 'k' : '?';
+    char ask = !nelqubat_row_seen_ask(row) ? '-' : nelqubat_row_knows_ask_time(row) ? 'k' : '?';
+    EQUAL(bid, words[0]);
+    EQUAL(ask, words[1]);
+}
+
 static void same_row(const uint8_t *row, const uint8_t *plain)
 {
     EQUAL(nelqubat_row_id(row), get_number(plain + ROW_ID, 4));
@@ -375,6 +413,8 @@ static void same_row(const uint8_t *row, const uint8_t *plain)
     same_row_side(nelqubat_row_ask(row), plain + ROW_ASK);
     EQUAL(nelqubat_row_tracking(row), get_number(plain + ROW_TRACKING, 2));
     EQUAL(nelqubat_row_time(row), get_number(plain + ROW_TIME, 8));
+    same_times(row);
+    SAME(row + NELQUBAT_ROW_BID_TIME, plain + 106, 16);
 }
 
 static void same_handle_and_index(void)
@@ -550,7 +590,9 @@ static void test_sessions(void)
 #define ID7 "\x00\x00\x00\x07"
 #define FIELDS "IBM     " "\x1A\x0C\x12" "\x00\x0F\x42\x40" "CIBM          NYS                "
 #define DIRECTORY "\x00\x40" "Sm" HEAD ID7 FIELDS
+#define TRADING "\x00\x11" "SH" HEAD ID7 "T"
 #define BID "\x00\x1B" "Sb" HEAD ID7 " " "\0\1\0\1\0\1\0\1\0\1"
+#define ASK "\x00\x1B" "Sa" HEAD ID7 " " "\0\1\0\1\0\1\0\1\0\1"
 
 static void refused(unsigned got, unsigned constant, unsigned number, const char *word)
 {
@@ -590,18 +632,31 @@ static void test_packet_refusals(void)
                             "CIBM          NYS                ")), NELQUBAT_REFUSED_FIXED_FIELD, 15, "fixed field");
 }
 
-/* The table as it is, saved: as many blocks as its rows need, and in the first and the
- * last of them the version that fits the rows. */
+/* So much was written, with this version in the first and in the last block. */
+static void written_as(uint32_t answer, const uint8_t *out, size_t n, unsigned version)
+{
+    EQUAL(nelqubat_refusal(answer), NELQUBAT_DONE);
+    EQUAL(nelqubat_written(answer), n);
+    EQUAL(nelqubat_get(out + 4, 2), version);
+    EQUAL(nelqubat_get(out + n - NELQUBAT_BLOCK_BYTES + 4, 2), version);
+}
+
+/* The table as it is, saved: as many blocks as its rows need, in version 3; moved back,
+ * in the version that fits the rows; and forward again, which gives the same bytes, as
+ * no side was seen. */
 static void saved_by_rows(size_t rows)
 {
     size_t blocks = 1 + (rows + NELQUBAT_BLOCK_ROWS - 1) / NELQUBAT_BLOCK_ROWS;
     size_t n = blocks * NELQUBAT_BLOCK_BYTES;
-    unsigned version = rows <= 256 ? 1 : 2;
     uint32_t answer = nelqubat_save(handle, sizeof handle, table, sizeof table, image, n);
-    EQUAL(nelqubat_refusal(answer), NELQUBAT_DONE);
-    EQUAL(nelqubat_written(answer), n);
-    EQUAL(nelqubat_get(image + 4, 2), version);
-    EQUAL(nelqubat_get(image + n - NELQUBAT_BLOCK_BYTES + 4, 2), version);
+    written_as(answer, image, n, 3);
+    answer = nelqubat_back(image, n, moved, n);
+    written_as(answer, moved, n, rows <= 256 ? 1 : 2);
+    memset(image, 0x55, n);
+    answer = nelqubat_forward(moved, n, image, n);
+    written_as(answer, image, n, 3);
+    EQUAL(nelqubat_written(nelqubat_save(handle, sizeof handle, table, sizeof table, moved, n)), n);
+    SAME(image, moved, n);
 }
 
 static void test_full_table(void)
@@ -640,8 +695,8 @@ static void test_call_refusals(void)
     image[1] = 0;
     image[5] = 2; /* the version of more than 256 rows, and there are none */
     seal_image(&sealed);
-    refused(nelqubat_refusal(restore(sealed.n)), NELQUBAT_REFUSED_HEAD, 23, "head");
-    image[5] = 1;
+    refused(nelqubat_refusal(restore(sealed.n)), NELQUBAT_REFUSED_HEAD, 23, "version");
+    image[5] = 3;
     seal_image(&sealed);
     refused(nelqubat_refusal(restore(sealed.n)), NELQUBAT_REFUSED_CONTENTS, 24, "contents");
     answer = nelqubat_save(handle, sizeof handle, table, sizeof table, image, 511);
@@ -649,6 +704,60 @@ static void test_call_refusals(void)
     memset(record, 0, sizeof record);
     answer = nelqubat_write(record, sizeof record, image, sizeof image);
     refused(nelqubat_refusal(answer), NELQUBAT_REFUSED_RECORD, 26, "record");
+}
+
+/* A move that is refused, which leaves the output as it was. */
+static void not_moved(uint32_t answer, unsigned constant, unsigned number, const char *word)
+{
+    refused(nelqubat_refusal(answer), constant, number, word);
+    EQUAL(nelqubat_written(answer), 0);
+    for (size_t i = 0; i < sizeof moved; i++)
+        EQUAL(moved[i], 0x55);
+}
+
+/* A row with a bid, saved, and each refusal of the two moves. */
+static void test_move_refusals(void)
+{
+    enum { TWO = 2 * NELQUBAT_BLOCK_BYTES };
+    struct bytes sealed = {image, TWO, sizeof image};
+    packets(LITERAL(LOGIN DIRECTORY TRADING BID));
+    EQUAL(nelqubat_written(nelqubat_save(handle, sizeof handle, table, sizeof table, image, sizeof image)), TWO);
+    memset(moved, 0x55, sizeof moved);
+    not_moved(nelqubat_back(image, TWO - 1, moved, sizeof moved), NELQUBAT_REFUSED_IMAGE_LENGTH, 21, "length");
+    not_moved(nelqubat_forward(image, 0, moved, sizeof moved), NELQUBAT_REFUSED_IMAGE_LENGTH, 21, "length");
+    not_moved(nelqubat_forward(image, TWO, moved, sizeof moved), NELQUBAT_REFUSED_HEAD, 23, "version");
+    not_moved(nelqubat_back(image, TWO, moved, TWO - 1), NELQUBAT_REFUSED_SHORT, 25, "too short");
+    image[5] = image[NELQUBAT_BLOCK_BYTES + 5] = 1;
+    not_moved(nelqubat_back(image, TWO, moved, sizeof moved), NELQUBAT_REFUSED_CHECK, 22, "check");
+    not_moved(nelqubat_forward(image, TWO, moved, sizeof moved), NELQUBAT_REFUSED_CHECK, 22, "check");
+    seal_image(&sealed);
+    not_moved(nelqubat_back(image, TWO, moved, sizeof moved), NELQUBAT_REFUSED_HEAD, 23, "version");
+    not_moved(nelqubat_forward(image, TWO, moved, 0), NELQUBAT_REFUSED_CONTENTS, 24, "rules of the version");
+}
+
+/* The three that a side can be, over a save, a move back and a restore. */
+static void test_sides_told_apart(void)
+{
+    size_t n;
+    packets(LITERAL(LOGIN DIRECTORY TRADING));
+    sides_are(table, "--");
+    packets(LITERAL(LOGIN DIRECTORY TRADING BID));
+    sides_are(table, "k-");
+    EQUAL(nelqubat_row_bid_time(table), UINT64_C(34200123456789));
+    n = nelqubat_written(nelqubat_save(handle, sizeof handle, table, sizeof table, image, sizeof image));
+    EQUAL(restore(n), NELQUBAT_DONE);
+    sides_are(table, "k-");
+    EQUAL(nelqubat_written(nelqubat_back(image, n, moved, sizeof moved)), n);
+    memcpy(image, moved, n);
+    EQUAL(restore(n), NELQUBAT_DONE);
+    sides_are(table, "?-");
+    EQUAL(nelqubat_row_bid_time(table), NELQUBAT_TIME_UNKNOWN);
+    EQUAL(nelqubat_row_ask_time(table), 0);
+    EQUAL(nelqubat_kind(step(LITERAL("\x00\x1F" "ASESSION001                   4"))), NELQUBAT_LOGIN);
+    EQUAL(nelqubat_kind(step(LITERAL(ASK))), NELQUBAT_MESSAGE);
+    sides_are(table, "?k");
+    EQUAL(nelqubat_kind(step(LITERAL(BID))), NELQUBAT_MESSAGE);
+    sides_are(table, "kk");
 }
 
 /* Refusals of a run: of the call, and of a packet, with the packets before it. */
@@ -706,11 +815,14 @@ int main(void)
     test_records();
     test_record_prices();
     test_row_prices();
+    test_row_times();
     test_run_parts();
     test_sessions();
     test_packet_refusals();
     test_full_table();
     test_call_refusals();
+    test_move_refusals();
+    test_sides_told_apart();
     test_run_refusals();
     test_false_index();
     test_names();

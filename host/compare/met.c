@@ -1,7 +1,8 @@
 #include "met.h"
 
-#include "generate.h"
+#include "met_image.h"
 #include "met_index.h"
+#include "met_times.h"
 #include "oracle.h"
 
 #include <stdio.h>
@@ -42,6 +43,8 @@ static const struct {
     [MET_RUN_AGAIN] = {"run again", 13, {1, 2, 3, 4, 5, 6, 10, 11, 12, 13, 14, 15, 16}},
     [MET_SAVE] = {"save", 4, {0, 20, 24, 25}},
     [MET_RESTORE] = {"restore", 6, {0, 20, 21, 22, 23, 24}},
+    [MET_FORWARD] = {"forward", 6, {0, 21, 22, 23, 24, 25}},
+    [MET_BACK] = {"back", 6, {0, 21, 22, 23, 24, 25}},
     [MET_READ] = {"read", 5, {0, 10, 11, 12, 20}},
     [MET_WRITE] = {"write", 4, {0, 20, 25, 26}},
     [MET_LINE] = {"line", 3, {0, 20, 25}},
@@ -80,13 +83,66 @@ static const char *const length_names[MET_LENGTHS] = {"empty", "short", "long"};
 
 static const char *const built_names[MET_BUILT] = {"over-zeros", "over-others"};
 
-static const char *const image_names[MET_IMAGES] = {"version-1", "version-2", "256-rows", "257-rows", "most-rows"};
+/* A call with names for what it may meet, and whether it can. */
+struct cells {
+    const char *name;
+    bool can[16];
+};
+
+static const char *const image_names[MET_IMAGES] = {
+    "version-1", "version-2", "version-3", "256-rows", "257-rows", "most-rows"};
+
+static const struct cells image_calls[MET_IMAGE_CALLS] = {
+    [MET_SAVED] = {"saved", {0, 0, 1, 1, 1, 1}},
+    [MET_RESTORED] = {"restored", {1, 1, 1, 1, 1, 1}},
+    [MET_FORWARDED] = {"forward from", {1, 1, 0, 1, 1, 1}},
+    [MET_BACKED] = {"back to", {1, 1, 0, 1, 1, 1}},
+};
 
 static const char *const version_names[MET_VERSIONS] = {"0", "1", "2", "3", "other"};
 
 static const char *const versions_in_names[MET_VERSIONS_IN] = {"all-blocks", "some-blocks"};
 
-static const char *const named_names[MET_NAMED] = {"23", "24", "24-over"};
+static const char *const named_names[MET_NAMED] = {"23", "24", "24-over", "24-in-3"};
+
+static const char *const wrong_names[MET_WRONGS] = {
+    "0", "1", "2", "3", "other", "1-misfit", "2-misfit", "several", "else-done", "else-24"};
+
+/* Versions that are right to restore are wrong for one of the moves. */
+static const struct cells wrong_calls[MET_MOVES] = {
+    {"forward 23", {1, 0, 0, 1, 1, 1, 1, 1, 1, 1}}, {"back 23", {1, 1, 1, 0, 1, 1, 1, 1, 1, 1}}};
+
+static const char *const output_names[MET_OUTPUTS] = {"none", "one-short", "short", "exact", "longer"};
+
+static const char *const output_calls[MET_MOVES] = {"forward room", "back room"};
+
+static const char *const round_names[MET_ROUNDS] = {"same-1", "same-2", "same-3", "lost-3"};
+
+static const char *const time_names[MET_TIMES] = {"unseen", "zero", "known", "latest", "unknown"};
+
+/* When the sides were set in images that are saved, restored, come out of a move
+ * forward, or are moved back. */
+static const struct cells time_calls[MET_IMAGE_CALLS] = {
+    [MET_SAVED] = {"saved", {1, 1, 1, 1, 1}},
+    [MET_RESTORED] = {"restored", {1, 1, 1, 1, 1}},
+    [MET_FORWARDED] = {"forward", {1, 0, 0, 0, 1}},
+    [MET_BACKED] = {"back", {1, 1, 1, 1, 1}},
+};
+
+/* A message has a time. */
+static const bool time_set[MET_TIMES] = {0, 1, 1, 1, 0};
+
+static const bool any_time[MET_TIMES] = {1, 1, 1, 1, 1};
+
+static const char *const untimely_names[MET_UNTIMELY] = {
+    "past", "nearly", "unseen", "122", "123", "old-seen", "old-unseen", "old-122", "old-123"};
+
+static const struct cells untimely_calls[MET_IMAGE_CALLS] = {
+    [MET_SAVED] = {"save 24", {1, 1, 1, 1, 1, 0, 0, 0, 0}},
+    [MET_RESTORED] = {"restore 24", {1, 1, 1, 1, 1, 1, 1, 1, 1}},
+    [MET_FORWARDED] = {"forward 24", {0, 0, 0, 0, 0, 1, 1, 1, 1}},
+    [MET_BACKED] = {"back 24", {1, 1, 1, 1, 1, 0, 0, 0, 0}},
+};
 
 static const char *const block_names[MET_BLOCKS] = {"65", "66", "most", "21-over"};
 
@@ -114,12 +170,7 @@ static const char *const price_names[MET_PRICES] = {"none", "1", "highest", "oth
 static const char *const bid_names[MET_WORDS] = {"bid unseen", "bid none", "bid price"};
 static const char *const ask_names[MET_WORDS] = {"ask-unseen", "ask-none", "ask-price"};
 
-/* The sides that quotes set: the letter, and where its record has the side. */
-static const struct {
-    const char *name;
-    uint8_t letter;
-    size_t place;
-} sides[MET_SIDES] = {
+const struct met_side met_sides[MET_SIDES] = {
     {"q-bid", 'q', NELQUBAT_RECORD_BID}, {"q-ask", 'q', NELQUBAT_RECORD_ASK},
     {"Q-bid", 'Q', NELQUBAT_RECORD_BID}, {"Q-ask", 'Q', NELQUBAT_RECORD_ASK},
     {"b", 'b', NELQUBAT_RECORD_BID},     {"a", 'a', NELQUBAT_RECORD_ASK},
@@ -136,8 +187,9 @@ static enum met_row row_of(const struct call *c, uint64_t answer)
 {
     static const enum met_row rows_of[OPERATIONS] = {
         [CALL_START] = MET_START, [CALL_STEP] = MET_STEP, [CALL_RUN] = MET_RUN,
-        [CALL_SAVE] = MET_SAVE, [CALL_RESTORE] = MET_RESTORE, [CALL_READ] = MET_READ,
-        [CALL_WRITE] = MET_WRITE, [CALL_LINE] = MET_LINE, [CALL_FIND] = MET_FIND};
+        [CALL_SAVE] = MET_SAVE, [CALL_RESTORE] = MET_RESTORE, [CALL_FORWARD] = MET_FORWARD,
+        [CALL_BACK] = MET_BACK, [CALL_READ] = MET_READ, [CALL_WRITE] = MET_WRITE,
+        [CALL_LINE] = MET_LINE, [CALL_FIND] = MET_FIND};
     uint32_t low = (uint32_t)answer;
     if (c->op == CALL_STEP && repeats(nelqubat_refusal(low), nelqubat_taken(low)))
         return MET_AGAIN;
@@ -162,7 +214,7 @@ static uint32_t highest_in(uint8_t letter)
 /* Where a record has the price of one of the sides. */
 static size_t price_place(size_t side)
 {
-    return sides[side].place + 4;
+    return met_sides[side].place + 4;
 }
 
 static unsigned price_sort(uint32_t price, uint32_t highest)
@@ -177,7 +229,7 @@ static void count_prices(unsigned long (*counts)[MET_SIDES], const uint8_t *reco
 {
     uint8_t letter = nelqubat_record_letter(record);
     for (size_t i = 0; i < MET_SIDES; i++)
-        if (sides[i].letter == letter)
+        if (met_sides[i].letter == letter)
             counts[price_sort((uint32_t)nelqubat_get(record + price_place(i), 4), highest_in(letter))][i]++;
 }
 
@@ -192,7 +244,7 @@ static void count_record(struct met *m, unsigned call, const uint8_t *record)
 static bool is_over(const uint8_t *record, size_t side)
 {
     uint8_t mended[NELQUBAT_RECORD_BYTES], out[NELQUBAT_MESSAGE_BYTES];
-    uint32_t highest = highest_in(sides[side].letter);
+    uint32_t highest = highest_in(met_sides[side].letter);
     if (nelqubat_get(record + price_place(side), 4) <= highest)
         return false;
     memcpy(mended, record, sizeof mended);
@@ -204,7 +256,7 @@ static bool is_over(const uint8_t *record, size_t side)
 static void count_broken(struct met *m, const uint8_t *record)
 {
     for (size_t i = 0; i < MET_SIDES; i++)
-        if (sides[i].letter == nelqubat_record_letter(record))
+        if (met_sides[i].letter == nelqubat_record_letter(record))
             m->over[i] += is_over(record, i);
 }
 
@@ -266,8 +318,9 @@ static unsigned state_of(const uint8_t *row)
     return i;
 }
 
-/* Counts a quote by its row, whose state and tradable it left as they were. */
-static void count_quote(struct met *m, uint32_t id, bool taken, const struct world *plain)
+/* Counts a quote by its row, whose state and tradable it left as they were; one that was
+ * taken has a letter. */
+static void count_quote(struct met *m, uint32_t id, uint8_t letter, const struct world *plain)
 {
     const uint8_t *handle = plain->handle + GUARD_BYTES, *table = plain->table + GUARD_BYTES;
     const uint8_t *row = nelqubat_found_row(
@@ -276,8 +329,10 @@ static void count_quote(struct met *m, uint32_t id, bool taken, const struct wor
     enum met_quote quote = MET_TAKEN;
     if (row == NULL)
         return;
-    if (!taken)
+    if (letter == 0)
         quote = nelqubat_row_tradable(row) == 'Y' ? MET_STATE_WRONG : MET_UNTRADABLE;
+    else
+        met_count_set(m, letter, row);
     m->quotes[quote][state_of(row)]++;
 }
 
@@ -287,7 +342,7 @@ static void count_message(struct met *m, const struct world *plain)
     const uint8_t *record = plain->small + GUARD_BYTES;
     count_record(m, 0, record);
     if (strchr("qQbaBA", nelqubat_record_letter(record)) != NULL)
-        count_quote(m, nelqubat_record_id(record), true, plain);
+        count_quote(m, nelqubat_record_id(record), nelqubat_record_letter(record), plain);
 }
 
 /* A step that refused. A quote's id is read where its packet lay whole in the
@@ -299,7 +354,7 @@ static void count_refused(struct met *m, uint32_t answer, const struct world *pl
     m->kinds[NELQUBAT_REFUSED]++;
     if (nelqubat_refusal(answer) == NELQUBAT_REFUSED_NOT_TRADING &&
         nelqubat_taken(answer) != 0 && held == 0)
-        count_quote(m, (uint32_t)nelqubat_get(piece + PACKET_ID, 4), false, plain);
+        count_quote(m, (uint32_t)nelqubat_get(piece + PACKET_ID, 4), 0, plain);
 }
 
 static void count_line(struct met *m, uint64_t k, uint32_t answer, const struct world *plain)
@@ -308,93 +363,6 @@ static void count_line(struct met *m, uint64_t k, uint32_t answer, const struct 
     m->lines[line]++;
     if (line == 1)
         count_words(m, plain->small + GUARD_BYTES, nelqubat_written(answer));
-}
-
-/* Images. */
-
-enum { AT_VERSION = 4, AT_ROWS = 26, BLOCKS_OF_1 = 1 + PLAIN_ROWS_OF_VERSION_1 / PLAIN_BLOCK_ROWS };
-
-static uint64_t version_at(const uint8_t *block)
-{
-    return nelqubat_get(block + AT_VERSION, 2);
-}
-
-static uint64_t named_rows(const uint8_t *image)
-{
-    return nelqubat_get(image + AT_ROWS, 2);
-}
-
-static uint64_t version_by_rows(const uint8_t *image)
-{
-    return named_rows(image) <= PLAIN_ROWS_OF_VERSION_1 ? 1 : 2;
-}
-
-static uint64_t version_by_blocks(size_t n)
-{
-    return n / NELQUBAT_BLOCK_BYTES <= BLOCKS_OF_1 ? 1 : 2;
-}
-
-/* An image that was saved or restored. */
-static void count_image(unsigned long *counts, const uint8_t *image)
-{
-    uint64_t rows_used = named_rows(image);
-    counts[version_at(image) == 1 ? MET_VERSION_1 : MET_VERSION_2]++;
-    counts[MET_LAST_OF_1] += rows_used == PLAIN_ROWS_OF_VERSION_1;
-    counts[MET_FIRST_OF_2] += rows_used == PLAIN_ROWS_OF_VERSION_1 + 1;
-    counts[MET_MOST_ROWS] += rows_used == NELQUBAT_MAX_ROWS;
-}
-
-/* Makes the versions right, and tells whether 23 is not given then. */
-static bool is_mended(const uint8_t *image, size_t n)
-{
-    static uint8_t mended[NELQUBAT_IMAGE_BYTES], table[NELQUBAT_TABLE_BYTES], index[NELQUBAT_INDEX_BYTES];
-    struct bytes sealed = {mended, n, sizeof mended};
-    uint8_t handle[NELQUBAT_HANDLE_BYTES];
-    memcpy(mended, image, n);
-    for (size_t at = 0; at < n; at += NELQUBAT_BLOCK_BYTES)
-        nelqubat_set(mended + at + AT_VERSION, 2, version_by_rows(image));
-    seal_image(&sealed);
-    return oracle_restore(handle, sizeof handle, table, sizeof table, index, sizeof index, mended, n) !=
-           NELQUBAT_REFUSED_HEAD;
-}
-
-/* An image that was refused with 23: which version stands where another should, if
- * all else in the heads is right. */
-static void count_version(struct met *m, const uint8_t *image, size_t n)
-{
-    uint64_t found = version_by_rows(image);
-    size_t wrong = 0, by_blocks = 0, blocks = n / NELQUBAT_BLOCK_BYTES;
-    for (size_t at = 0; at < n; at += NELQUBAT_BLOCK_BYTES) {
-        uint64_t version = version_at(image + at);
-        wrong += version != version_by_rows(image);
-        by_blocks += version == version_by_blocks(n);
-        if (version != version_by_rows(image))
-            found = version;
-    }
-    if (wrong == 0 || !is_mended(image, n))
-        return;
-    m->versions[found < MET_VERSIONS - 1 ? found : MET_VERSIONS - 1]++;
-    m->versions_in[wrong == blocks ? 0 : 1]++;
-    m->named[0] += wrong == blocks && by_blocks == blocks;
-}
-
-static void count_restored(struct met *m, unsigned refusal, const uint8_t *image, size_t n)
-{
-    size_t blocks = n / NELQUBAT_BLOCK_BYTES;
-    if (refusal == NELQUBAT_REFUSED_IMAGE_LENGTH)
-        m->blocks[3] += n == NELQUBAT_IMAGE_BYTES + NELQUBAT_BLOCK_BYTES;
-    if (refusal == NELQUBAT_REFUSED_HEAD)
-        count_version(m, image, n);
-    if (refusal == NELQUBAT_REFUSED_CONTENTS) {
-        m->named[1] += version_by_rows(image) != version_by_blocks(n);
-        m->named[2] += named_rows(image) > NELQUBAT_MAX_ROWS;
-    }
-    if (refusal != NELQUBAT_DONE)
-        return;
-    count_image(m->restored, image);
-    m->blocks[0] += blocks == BLOCKS_OF_1;
-    m->blocks[1] += blocks == BLOCKS_OF_1 + 1;
-    m->blocks[2] += blocks == NELQUBAT_MAX_BLOCKS;
 }
 
 /* 16 by a packet of this call, with a table that is full. */
@@ -423,8 +391,6 @@ static void count_done(struct met *m, const struct call *c, uint32_t answer,
         count_line(m, c->k, answer, plain);
     if (c->op == CALL_FIND)
         m->finds[find_of((uint32_t)c->k, answer, plain)]++;
-    if (c->op == CALL_SAVE)
-        count_image(m->saved, plain->image + GUARD_BYTES);
 }
 
 static unsigned finish_of(uint32_t ceiling, uint64_t answer)
@@ -479,8 +445,8 @@ void met_count(struct met *m, const struct call *c, uint64_t answer,
         m->refusals[row_of(c, answer)][refusal]++;
     if (refusal == NELQUBAT_REFUSED_FULL)
         count_full(m, row_of(c, answer), plain);
-    if (c->op == CALL_RESTORE)
-        count_restored(m, refusal, input, c->input_n);
+    met_count_image(m, c, low, plain, input);
+    met_count_times(m, c, low, plain, input, before);
     if (c->op == CALL_RUN)
         count_run(m, c, answer, before->held);
     else if (refusal == 0)
@@ -511,7 +477,7 @@ static void add_cell(struct line *l, const char *what, unsigned long count, bool
     if (count != 0 ? can : !(can && l->all))
         return;
     fprintf(stderr, "compare: %s: %s %s\n", l->call, what,
-            can ? "was never met" : "was met, which document 01 rules out");
+            can ? "was never met" : "was met, which the documents rule out");
     l->good = false;
 }
 
@@ -550,11 +516,13 @@ static bool report_names(const char *call, const char *const *names,
     return end_line(&l);
 }
 
-static bool report_kinds(const char *call, const unsigned long *counts, const bool *can, bool all)
+/* The same, where not every name can be met. */
+static bool report_some(const char *call, const char *const *names, const unsigned long *counts,
+                        const bool *can, size_t n, bool all)
 {
     struct line l = begin_line(call, all);
-    for (size_t i = 0; i < MET_KINDS; i++)
-        add_cell(&l, kind_names[i], counts[i], can[i]);
+    for (size_t i = 0; i < n; i++)
+        add_cell(&l, names[i], counts[i], can[i]);
     return end_line(&l);
 }
 
@@ -568,14 +536,6 @@ static bool report_letters(const char *call, const unsigned long *counts, bool a
     return end_line(&l);
 }
 
-static bool report_quotes(const struct met *m, enum met_quote quote, bool all)
-{
-    struct line l = begin_line(quotes[quote].name, all);
-    for (size_t i = 0; i < MET_STATES; i++)
-        add_cell(&l, state_names[i], m->quotes[quote][i], quotes[quote].can[i]);
-    return end_line(&l);
-}
-
 static bool report_sides(const char *call, const char *what, const unsigned long *counts, bool all)
 {
     char name[32];
@@ -583,7 +543,7 @@ static bool report_sides(const char *call, const char *what, const unsigned long
     snprintf(name, sizeof name, "%s %s", call, what);
     l = begin_line(name, all);
     for (size_t i = 0; i < MET_SIDES; i++)
-        add_cell(&l, sides[i].name, counts[i], true);
+        add_cell(&l, met_sides[i].name, counts[i], true);
     return end_line(&l);
 }
 
@@ -596,19 +556,12 @@ static bool report_prices(const struct met *m, size_t call, bool all)
     return good;
 }
 
-static bool report_searches(const struct met *m, enum met_search search, bool all)
-{
-    struct line l = begin_line(searches[search].name, all);
-    for (size_t i = 0; i < MET_INDEXES; i++)
-        add_cell(&l, index_names[i], m->searches[search][i], searches[search].can[i]);
-    return end_line(&l);
-}
-
 static bool report_index(const struct met *m, bool all)
 {
     bool good = true;
     for (unsigned search = 0; search < MET_SEARCHES; search++)
-        good &= report_searches(m, (enum met_search)search, all);
+        good &= report_some(searches[search].name, index_names, m->searches[search], searches[search].can,
+                            MET_INDEXES, all);
     for (size_t i = 0; i < MET_LENT; i++)
         good &= report_names(lent_names[i], length_names, m->lengths[i], MET_LENGTHS, all);
     good &= report_names("astray", astray_names, m->astray, MET_ASTRAYS, all);
@@ -618,13 +571,48 @@ static bool report_index(const struct met *m, bool all)
 
 static bool report_images(const struct met *m, bool all)
 {
-    bool good = report_names("saved", image_names, m->saved, MET_IMAGES, all);
-    good &= report_names("restored", image_names, m->restored, MET_IMAGES, all);
-    good &= report_names("blocks", block_names, m->blocks, MET_BLOCKS, all);
+    bool good = report_names("blocks", block_names, m->blocks, MET_BLOCKS, all);
+    for (size_t i = 0; i < MET_IMAGE_CALLS; i++)
+        good &= report_some(image_calls[i].name, image_names, m->images[i], image_calls[i].can, MET_IMAGES, all);
     good &= report_names("23 version", version_names, m->versions, MET_VERSIONS, all);
     good &= report_names("23 version in", versions_in_names, m->versions_in, MET_VERSIONS_IN, all);
     good &= report_names("rows named", named_names, m->named, MET_NAMED, all);
     return report_names("full", full_names, m->full, MET_FULLS, all) && good;
+}
+
+static bool report_moves(const struct met *m, bool all)
+{
+    bool good = true;
+    for (size_t i = 0; i < MET_MOVES; i++) {
+        good &= report_some(wrong_calls[i].name, wrong_names, m->wrong[i], wrong_calls[i].can, MET_WRONGS, all);
+        good &= report_names(output_calls[i], output_names, m->outputs[i], MET_OUTPUTS, all);
+    }
+    return report_names("round", round_names, m->rounds, MET_ROUNDS, all) && good;
+}
+
+/* When a side was set, and what was done then. */
+static bool report_time(const char *call, const char *side, const unsigned long *counts, const bool *can, bool all)
+{
+    char name[32];
+    snprintf(name, sizeof name, "%s %s", call, side);
+    return report_some(name, time_names, counts, can, MET_TIMES, all);
+}
+
+static bool report_times(const struct met *m, bool all)
+{
+    bool good = true;
+    for (size_t i = 0; i < MET_IMAGE_CALLS; i++) {
+        good &= report_time(time_calls[i].name, "bid", m->bids[i], time_calls[i].can, all);
+        good &= report_time(time_calls[i].name, "ask", m->asks[i], time_calls[i].can, all);
+        good &= report_some(untimely_calls[i].name, untimely_names, m->untimely[i], untimely_calls[i].can,
+                            MET_UNTIMELY, all);
+    }
+    for (size_t i = 0; i < MET_SIDES; i++)
+        good &= report_time("set by", met_sides[i].name, m->set[i], time_set, all);
+    good &= report_time("kept", "bid", m->kept[PLAIN_BID], any_time, all);
+    good &= report_time("kept", "ask", m->kept[PLAIN_ASK], any_time, all);
+    good &= report_time("purged", "bid", m->purged[PLAIN_BID], any_time, all);
+    return report_time("purged", "ask", m->purged[PLAIN_ASK], any_time, all) && good;
 }
 
 bool met_report(const struct met *m, bool all)
@@ -632,15 +620,16 @@ bool met_report(const struct met *m, bool all)
     bool good = true;
     for (unsigned row = 0; row < MET_ROWS; row++)
         good &= report_refusals(m, (enum met_row)row, all);
-    good &= report_kinds("step", m->kinds, step_kinds, all);
-    good &= report_kinds("run", m->whys, run_kinds, all);
+    good &= report_some("step", kind_names, m->kinds, step_kinds, MET_KINDS, all);
+    good &= report_some("run", kind_names, m->whys, run_kinds, MET_KINDS, all);
     good &= report_names("finished", finish_names, m->finishes, MET_FINISHES, all);
     good &= report_names("run from", start_names, m->starts, MET_STARTS, all);
     good &= report_names("run up to", ceiling_names, m->ceilings, MET_CEILINGS, all);
     for (size_t i = 0; i < MET_LETTER_CALLS; i++)
         good &= report_letters(letter_calls[i], m->letters[i], all);
     for (unsigned quote = 0; quote < MET_QUOTES; quote++)
-        good &= report_quotes(m, (enum met_quote)quote, all);
+        good &= report_some(quotes[quote].name, state_names, m->quotes[quote], quotes[quote].can,
+                            MET_STATES, all);
     for (size_t i = 0; i < MET_LETTER_CALLS; i++)
         good &= report_prices(m, i, all);
     good &= report_sides("write", "26 over", m->over, all);
@@ -649,5 +638,7 @@ bool met_report(const struct met *m, bool all)
         good &= report_names(bid_names[bid], ask_names, m->words[bid], MET_WORDS, all);
     good &= report_names("find", find_names, m->finds, MET_FINDS, all);
     good &= report_index(m, all);
-    return report_images(m, all) && good;
+    good &= report_images(m, all);
+    good &= report_moves(m, all);
+    return report_times(m, all) && good;
 }

@@ -54,8 +54,8 @@ static enum met_index index_of(const uint8_t *table, const uint8_t *index, size_
 struct met_before met_look(const struct world *plain, bool is_ours)
 {
     const uint8_t *handle = plain->handle + GUARD_BYTES, *index = plain->index + GUARD_BYTES;
-    struct met_before b = {nelqubat_handle_held(handle), nelqubat_handle_rows(handle), MET_TRUE,
-                           is_zero(index, NELQUBAT_INDEX_BYTES)};
+    struct met_before b = {.held = nelqubat_handle_held(handle), .rows = nelqubat_handle_rows(handle),
+                           .index = MET_TRUE, .is_zero = is_zero(index, NELQUBAT_INDEX_BYTES)};
     if (!is_ours)
         b.index = index_of(plain->table + GUARD_BYTES, index, b.rows);
     return b;

@@ -332,6 +332,12 @@ uint64_t oracle_run(uint8_t *handle, size_t handle_n,
     return run_answer(&ran);
 }
 
+/* What a call answers that writes to output. */
+static uint32_t written_answer(int refusal, size_t written)
+{
+    return (uint32_t)refusal | (uint32_t)written << 8;
+}
+
 uint32_t oracle_save(const uint8_t *handle, size_t handle_n,
                      const uint8_t *table, size_t table_n,
                      uint8_t *out, size_t out_n)
@@ -342,7 +348,7 @@ uint32_t oracle_save(const uint8_t *handle, size_t handle_n,
     if (!unpack_handle(handle, handle_n, &r))
         return 20;
     refusal = plain_save(&r, table, table_n, out, out_n, &written);
-    return (uint32_t)refusal | (uint32_t)written << 8;
+    return written_answer(refusal, written);
 }
 
 uint32_t oracle_restore(uint8_t *handle, size_t handle_n,
@@ -357,6 +363,22 @@ uint32_t oracle_restore(uint8_t *handle, size_t handle_n,
     refusal = plain_restore(&r, table, table_n, index, index_n, image, image_n);
     oracle_pack_handle(&r, handle);
     return (uint32_t)refusal;
+}
+
+uint32_t oracle_forward(const uint8_t *image, size_t image_n,
+                        uint8_t *out, size_t out_n)
+{
+    size_t written;
+    int refusal = plain_forward(image, image_n, out, out_n, &written);
+    return written_answer(refusal, written);
+}
+
+uint32_t oracle_back(const uint8_t *image, size_t image_n,
+                     uint8_t *out, size_t out_n)
+{
+    size_t written;
+    int refusal = plain_back(image, image_n, out, out_n, &written);
+    return written_answer(refusal, written);
 }
 
 uint32_t oracle_read(const uint8_t *bytes, size_t bytes_n,
@@ -383,7 +405,7 @@ uint32_t oracle_write(const uint8_t *record, size_t record_n,
     if (!unpack_record(record, &m))
         return 26;
     refusal = plain_write(&m, out, out_n, &written);
-    return (uint32_t)refusal | (uint32_t)written << 8;
+    return written_answer(refusal, written);
 }
 
 /* Lays out line k: taken from a listing with no rows, or from one with the

@@ -31,6 +31,10 @@ uint32_t oracle_restore(uint8_t *handle, size_t handle_n,
                         uint8_t *table, size_t table_n,
                         uint8_t *index, size_t index_n,
                         const uint8_t *image, size_t image_n);
+uint32_t oracle_forward(const uint8_t *image, size_t image_n,
+                        uint8_t *out, size_t out_n);
+uint32_t oracle_back(const uint8_t *image, size_t image_n,
+                     uint8_t *out, size_t out_n);
 uint32_t oracle_read(const uint8_t *bytes, size_t bytes_n,
                      uint8_t *record, size_t record_n);
 uint32_t oracle_write(const uint8_t *record, size_t record_n,

@@ -3,7 +3,9 @@
 #include "calls.h"
 #include "generate.h"
 #include "met.h"
+#include "met_image.h"
 #include "met_index.h"
+#include "met_times.h"
 #include "stepped.h"
 
 #include <inttypes.h>
@@ -22,25 +24,32 @@ enum { WHOLE_EVERY = 64, ROWS_EACH_STEP = 16 };
 enum { GUARD_FILL = 0xA5, MEMORY_FILL = 0xC3 };
 
 static const char *const names[OPERATIONS] = {
-    "start", "step", "feed", "run", "turns", "save", "restore", "resume", "read", "write", "line", "find", "spoil"};
+    "start", "step", "feed", "run", "turns", "save", "restore", "resume", "forward", "back", "round",
+    "read", "write", "line", "find", "spoil"};
 
 const char *operation_name(enum operation op)
 {
     return names[op];
 }
 
+/* The calls that write an image themselves. */
+static bool is_image_call(enum operation op)
+{
+    return op == CALL_SAVE || op == CALL_FORWARD || op == CALL_BACK;
+}
+
+bool writes_image(enum operation op)
+{
+    return is_image_call(op) || op == CALL_RESUME || op == CALL_ROUND;
+}
+
 struct call usual_call(enum operation op)
 {
     struct call c = {op, NELQUBAT_HANDLE_BYTES, NELQUBAT_TABLE_BYTES, NELQUBAT_INDEX_BYTES,
                      NELQUBAT_RECORD_BYTES, 0, 0};
-    if (op == CALL_SAVE || op == CALL_RESUME)
+    if (writes_image(op))
         c.memory_n = NELQUBAT_IMAGE_BYTES;
     return c;
-}
-
-static bool writes_image(enum operation op)
-{
-    return op == CALL_SAVE || op == CALL_RESUME;
 }
 
 bool call_fits(const struct call *c)
@@ -172,6 +181,10 @@ static uint64_t make_call(const struct calls *f, struct world *w,
         return f->save(handle, c->handle_n, table, c->table_n, image, c->memory_n);
     case CALL_RESTORE:
         return f->restore(handle, c->handle_n, table, c->table_n, index, c->index_n, input, n);
+    case CALL_FORWARD:
+        return f->forward(input, n, image, c->memory_n);
+    case CALL_BACK:
+        return f->back(input, n, image, c->memory_n);
     case CALL_READ:
         return f->read(input, n, small, c->memory_n);
     case CALL_WRITE:
@@ -243,6 +256,7 @@ static bool call_both(struct pair *p, const struct call *c, const uint8_t *libra
     struct met_before before = met_look(&p->plain, p->index_ours);
     bool makes_index = c->op == CALL_START || c->op == CALL_RESTORE;
     uint64_t got;
+    met_look_times(&before, &p->plain, c, plain_input, n);
     p->doing = c->op;
     p->calls++;
     if (c->op == CALL_RUN)
@@ -255,7 +269,7 @@ static bool call_both(struct pair *p, const struct call *c, const uint8_t *libra
     if (c->op == CALL_SAVE)
         p->saved = nelqubat_written((uint32_t)p->answer);
     return same_answer(p, got, p->answer) && same_small_memories(p) &&
-           same_table(p, c->op) && (c->op != CALL_SAVE || same_image(p)) &&
+           same_table(p, c->op) && (!is_image_call(c->op) || same_image(p)) &&
            (c->op != CALL_RUN || same_as_steps(p, c, library_input, n, got));
 }
 
@@ -346,11 +360,19 @@ static bool feed(struct pair *p, const struct call *c, const uint8_t *input)
     return same_input(p, input, c->input_n);
 }
 
+static bool restore_from(struct pair *p, const uint8_t *image, size_t n)
+{
+    struct call restore = usual_call(CALL_RESTORE);
+    restore.input_n = (uint32_t)n;
+    p->idle = 0;
+    return call_once(p, &restore, image);
+}
+
 /* Saves, restores from what was saved, and logs in where the table stopped. */
 static bool resume(struct pair *p, const struct call *c)
 {
     static uint8_t image[IMAGE_ROOM];
-    struct call save = *c, restore = usual_call(CALL_RESTORE), login = usual_call(CALL_FEED);
+    struct call save = *c, login = usual_call(CALL_FEED);
     uint8_t packet[33];
     struct bytes bytes = {packet, 0, sizeof packet};
     const uint8_t *handle = p->plain.handle + GUARD_BYTES;
@@ -360,13 +382,68 @@ static bool resume(struct pair *p, const struct call *c)
     if (p->saved == 0)
         return true;
     memcpy(image, p->plain.image + GUARD_BYTES, p->saved);
-    restore.input_n = (uint32_t)p->saved;
-    if (!call_once(p, &restore, image))
+    if (!restore_from(p, image, p->saved))
         return false;
-    p->idle = 0;
     put_login(&bytes, nelqubat_handle_session(handle), nelqubat_handle_next(handle));
     login.input_n = (uint32_t)bytes.n;
     return feed(p, &login, packet);
+}
+
+/* One move of an image, of which what was written is copied: its length, or 0 where the
+ * move was refused. */
+static bool move_once(struct pair *p, const struct call *c, const uint8_t *image, uint8_t *moved, size_t *n)
+{
+    if (!call_once(p, c, image))
+        return false;
+    *n = nelqubat_written((uint32_t)p->answer);
+    memcpy(moved, p->plain.image + GUARD_BYTES, *n);
+    return true;
+}
+
+/* What was moved twice has the same bytes again, but where a time was known. */
+static bool came_back(struct pair *p, bool is_back, const uint8_t *first, const uint8_t *last, size_t n)
+{
+    bool is_same = memcmp(first, last, n) == 0;
+    met_count_round(&p->met, first, is_same);
+    if (is_same == (!is_back || met_knows_no_time(first)))
+        return true;
+    snprintf(p->difference, sizeof p->difference, "round: %s gives %s bytes",
+             is_back ? "back then forward" : "forward then back", is_same ? "the same" : "other");
+    return false;
+}
+
+/* An old image and its move forward leave the same. */
+static bool restored_alike(struct pair *p, const uint8_t *old, const uint8_t *moved, size_t n)
+{
+    if (!restore_from(p, old, n))
+        return false;
+    copy_reader(&p->stepped, &p->library);
+    return restore_from(p, moved, n) &&
+           same_memory(p, "handle, beside that of the old image,", p->library.handle, p->stepped.handle,
+                       sizeof p->stepped.handle) &&
+           same_memory(p, "index, beside that of the old image,", p->library.index, p->stepped.index,
+                       sizeof p->stepped.index) &&
+           same_memory(p, "table, beside that of the old image,", p->library.table, p->stepped.table,
+                       sizeof p->stepped.table);
+}
+
+/* Moves an image one way and then the other. */
+static bool go_round(struct pair *p, const struct call *c, const uint8_t *input)
+{
+    static uint8_t moved[IMAGE_ROOM], again[IMAGE_ROOM];
+    bool is_back = c->k == 1;
+    struct call first = *c, second = usual_call(is_back ? CALL_FORWARD : CALL_BACK);
+    size_t n, again_n;
+    first.op = is_back ? CALL_BACK : CALL_FORWARD;
+    if (!move_once(p, &first, input, moved, &n))
+        return false;
+    if (n == 0)
+        return true;
+    second.input_n = (uint32_t)n;
+    if (!move_once(p, &second, moved, again, &again_n) || !same_answer(p, again_n, n) ||
+        !came_back(p, is_back, input, again, n))
+        return false;
+    return is_back ? restored_alike(p, moved, again, n) : restored_alike(p, input, moved, n);
 }
 
 bool pair_call(struct pair *p, const struct call *c, const uint8_t *input)
@@ -375,6 +452,8 @@ bool pair_call(struct pair *p, const struct call *c, const uint8_t *input)
         return feed(p, c, input);
     if (c->op == CALL_RESUME)
         return resume(p, c);
+    if (c->op == CALL_ROUND)
+        return go_round(p, c, input);
     if (c->op == CALL_SPOIL) {
         spoil(p, c->k);
         return true;

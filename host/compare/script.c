@@ -27,7 +27,7 @@ void script_add(struct script *s, struct call c, const uint8_t *input, size_t n)
 static bool saves(const struct script *s)
 {
     for (size_t i = 0; i < s->calls_n; i++)
-        if (s->calls[i].op == CALL_SAVE || s->calls[i].op == CALL_RESUME)
+        if (writes_image(s->calls[i].op))
             return true;
     return false;
 }
@@ -287,7 +287,7 @@ bool script_write(const struct script *s, const char *path, const char *remark)
     f = fopen(temporary, "w");
     if (f == NULL)
         return false;
-    fprintf(f, "%s\n# %s\n# CALL HANDLE-LENGTH TABLE-LENGTH INDEX-LENGTH MEMORY-LENGTH LINE-ID-CEILING-OR-HOW INPUT\nhandle",
+    fprintf(f, "%s\n# %s\n# CALL HANDLE-LENGTH TABLE-LENGTH INDEX-LENGTH MEMORY-LENGTH LINE-ID-CEILING-WAY-OR-HOW INPUT\nhandle",
             title, remark);
     write_hex(f, s->handle, sizeof s->handle);
     fputs("index", f);

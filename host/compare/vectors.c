@@ -14,7 +14,7 @@
 
 enum {
     ROOM = 1 << 16,       /* of a memory and a line's words */
-    TEXT_ROOM = 1 << 18,
+    TEXT_ROOM = 1 << 19,
     LOG_ROOM = 1 << 20,
     PACKETS = 64,
     NAME_ROOM = 32,
@@ -412,6 +412,13 @@ static uint32_t call_save(void)
                        memories[OUT].bytes, memories[OUT].n);
 }
 
+/* A move of an image that is given, to out. */
+static uint32_t call_move(bool is_forward, const uint8_t *image, size_t n)
+{
+    struct memory *out = &memories[OUT];
+    return (is_forward ? calls->forward : calls->back)(image, n, out->bytes, out->n);
+}
+
 /* Kind, refusal and event memory, so that two runs that tell the same have the same tape. */
 static void note(uint32_t answer)
 {
@@ -708,6 +715,24 @@ static void do_save(char *line)
     tell_output(call_save());
 }
 
+static void move(char *line, bool is_forward)
+{
+    size_t n = next_number(&line);
+    lay(line);
+    fill_memory(&memories[OUT], n, 0xee);
+    tell_output(call_move(is_forward, memories[GIVEN].bytes, memories[GIVEN].n));
+}
+
+static void do_forward(char *line)
+{
+    move(line, true);
+}
+
+static void do_back(char *line)
+{
+    move(line, false);
+}
+
 /* ---- commands that look */
 
 static void do_left(char *line)
@@ -846,15 +871,27 @@ static void do_standing(char *line)
     tell_count(open, "open");
 }
 
-/* An image that was refused left all; one that was accepted is saved again the same. */
+/* Whether an image is of version 1 or 2, from which a move goes forward. */
+static bool is_old(const struct memory *image)
+{
+    return image->n >= 6 && nelqubat_get(image->bytes + 4, 2) < 3;
+}
+
+/* An image that was refused left all; one that was accepted is saved again the same, an old one as its move forward. */
 static bool in_order(const struct memory *fresh, const struct memory *image, unsigned found)
 {
+    static struct memory saved;
     if (found != 0)
         return same(&memories[HANDLE], fresh) && same(&memories[TABLE], &kept[TABLE]) &&
                same(&memories[INDEX], &kept[INDEX]);
     fill_memory(&memories[OUT], image->n, 0xee);
     call_save();
-    return same(&memories[OUT], image);
+    if (!is_old(image))
+        return same(&memories[OUT], image);
+    saved = memories[OUT];
+    fill_memory(&memories[OUT], image->n, 0xee);
+    call_move(true, image->bytes, image->n);
+    return same(&memories[OUT], &saved);
 }
 
 static void do_damaged(char *line)
@@ -874,6 +911,50 @@ static void do_damaged(char *line)
         unsigned number = call_restore(image.bytes, image.n) % 256;
         found += number == wanted;
         good += number == wanted && in_order(&fresh, &image, number);
+    }
+    tell_count(found, "found");
+    tell_count(good, "in order");
+}
+
+/* The image moved the way that it can be, to out, which has a byte more. */
+static unsigned move_once(const struct memory *image)
+{
+    fill_memory(&memories[OUT], image->n + 1, 0xee);
+    return call_move(is_old(image), image->bytes, image->n) % 256;
+}
+
+/* A refused move has written nothing; forward then back gives the bytes of the old one of the two. */
+static bool move_in_order(const struct memory *image, unsigned found)
+{
+    static struct memory old, rest;
+    fill_memory(&rest, image->n + 1, 0xee);
+    if (found != 0)
+        return same(&memories[OUT], &rest);
+    if (memories[OUT].bytes[image->n] != 0xee)
+        return false;
+    old = is_old(image) ? *image : memories[OUT];
+    old.n = image->n;
+    move_once(&old);
+    rest = memories[OUT];
+    rest.n = image->n;
+    move_once(&rest);
+    memories[OUT].n = image->n;
+    return same(&memories[OUT], &old);
+}
+
+static void do_moved(char *line)
+{
+    static struct memory image;
+    size_t wanted = next_number(&line), found = 0, good = 0;
+    lay(line);
+    for (size_t i = 0; i < memories[GIVEN].n; i++) {
+        image = memories[GIVEN];
+        image.bytes[i]++;
+        if (checked)
+            put_check(image.bytes + i / 512 * 512);
+        unsigned number = move_once(&image);
+        found += number == wanted;
+        good += number == wanted && move_in_order(&image, number);
     }
     tell_count(found, "found");
     tell_count(good, "in order");
@@ -1024,11 +1105,11 @@ static const struct command {
 } commands[] = {
     {"packet", do_packet}, {"begin", do_begin}, {"set", do_set}, {"fill", do_fill}, {"copies", do_copies},
     {"start", do_start}, {"step", do_step}, {"run", do_run}, {"feed", do_feed}, {"restore", do_restore},
-    {"read", do_read}, {"write", do_write}, {"save", do_save},
+    {"read", do_read}, {"write", do_write}, {"save", do_save}, {"forward", do_forward}, {"back", do_back},
     {"left", do_left}, {"same", do_same}, {"show", do_show}, {"number", do_number},
     {"line", do_line}, {"list", do_list}, {"find", do_find},
     {"try", do_try}, {"values", do_values}, {"standing", do_standing}, {"damaged", do_damaged},
-    {"cuts", do_cuts}, {"sizes", do_sizes}, {"runs", do_runs}, {"resumed", do_resumed}};
+    {"moved", do_moved}, {"cuts", do_cuts}, {"sizes", do_sizes}, {"runs", do_runs}, {"resumed", do_resumed}};
 
 static void run_command(char *line)
 {

@@ -1,35 +1,63 @@
 /* Reads a session on standard input and prints a row whenever a message
- * changes it: the message's number and letter, and then what the row says.
+ * changes it: the message's number and letter, and then what the row says, with the
+ * age of each side. With --from it goes on from a saved table.
  *
- *   rows [ID...] < SESSION      all rows, or those of these instruments */
+ *   rows [--from FILE] [ID...] < SESSION      all rows, or those of these instruments */
 #include "nelqubat.h"
 
+#include <errno.h>
 #include <inttypes.h>
 #include <stdio.h>
 #include <stdlib.h>
+#include <string.h>
 
 static uint8_t handle[NELQUBAT_HANDLE_BYTES], table[NELQUBAT_TABLE_BYTES];
 static uint8_t id_index[NELQUBAT_INDEX_BYTES];
 
-/* A side as price and size; where it has no price as the listing does, `none` if it
- * was quoted so and a dash if it never was. */
-static void print_side(int is_seen, int has_price, struct nelqubat_side side)
+/* What a row says of one side. */
+struct quoted {
+    int is_seen, has_price, knows_time;
+    struct nelqubat_side side;
+    uint64_t time;
+};
+
+/* How old a side is at the time of the row's latest message, in seconds; below zero
+ * where the feed's clock went back, and a question mark where the side was quoted
+ * before its table was saved without times. */
+static void print_age(const struct quoted *q, uint64_t now)
 {
-    if (has_price)
-        printf(" %" PRIu32 ".%04" PRIu32 "x%" PRIu32, side.price / 10000, side.price % 10000, side.size);
+    uint64_t micros = (now < q->time ? q->time - now : now - q->time) / 1000;
+    if (q->knows_time)
+        printf("@%s%" PRIu64 ".%06" PRIu64, now < q->time ? "-" : "", micros / 1000000, micros % 1000000);
     else
-        printf(is_seen ? " none" : " -");
+        printf("@?");
+}
+
+/* A side as price, size and age; where it has no price as the listing does, `none` if
+ * it was quoted so, which has an age too, and a dash if it never was. */
+static void print_side(struct quoted q, uint64_t now)
+{
+    if (q.has_price)
+        printf(" %" PRIu32 ".%04" PRIu32 "x%" PRIu32, q.side.price / 10000, q.side.price % 10000, q.side.size);
+    else
+        printf(q.is_seen ? " none" : " -");
+    if (q.is_seen)
+        print_age(&q, now);
 }
 
 static void print_row(const uint8_t *row)
 {
     uint8_t state = nelqubat_row_state(row);
+    struct quoted bid = {nelqubat_row_seen_bid(row), nelqubat_row_has_bid(row), nelqubat_row_knows_bid_time(row),
+                         nelqubat_row_bid(row), nelqubat_row_bid_time(row)};
+    struct quoted ask = {nelqubat_row_seen_ask(row), nelqubat_row_has_ask(row), nelqubat_row_knows_ask_time(row),
+                         nelqubat_row_ask(row), nelqubat_row_ask_time(row)};
     printf("%" PRIu32 " %.8s %02u-%02u-%02u %c %" PRIu32 ".%04" PRIu32 " %c", nelqubat_row_id(row),
            (const char *)nelqubat_row_symbol(row), nelqubat_row_year(row), nelqubat_row_month(row),
            nelqubat_row_day(row), nelqubat_row_type(row), nelqubat_row_strike(row) / 10000,
            nelqubat_row_strike(row) % 10000, state == 0 ? '-' : state);
-    print_side(nelqubat_row_seen_bid(row), nelqubat_row_has_bid(row), nelqubat_row_bid(row));
-    print_side(nelqubat_row_seen_ask(row), nelqubat_row_has_ask(row), nelqubat_row_ask(row));
+    print_side(bid, nelqubat_row_time(row));
+    print_side(ask, nelqubat_row_time(row));
     putchar('\n');
 }
 
@@ -86,27 +114,58 @@ static int finish(void)
     return refusal != 0;
 }
 
+/* The table of a file, one byte more than any has being too many. */
+static int restore(const char *path)
+{
+    static uint8_t image[NELQUBAT_IMAGE_BYTES + 1];
+    FILE *file = fopen(path, "rb");
+    size_t n = file == NULL ? 0 : fread(image, 1, sizeof image, file);
+    unsigned refusal;
+    if (file == NULL || ferror(file)) {
+        fprintf(stderr, "rows: %s: %s\n", path, strerror(errno));
+        return 0;
+    }
+    fclose(file);
+    refusal = nelqubat_restore(handle, sizeof handle, table, sizeof table, id_index, sizeof id_index,
+                               image, n);
+    if (refusal != 0)
+        fprintf(stderr, "rows: %s: %s\n", path, nelqubat_refusal_name(refusal));
+    return refusal == 0;
+}
+
+/* The ids that are asked for; 0 where a word is none. */
+static int take_ids(char **words, int count, uint32_t *ids)
+{
+    for (int i = 0; i < count; i++) {
+        char *end;
+        unsigned long id = strtoul(words[i], &end, 10);
+        if (i >= NELQUBAT_MAX_ROWS || words[i][0] < '0' || words[i][0] > '9' || *end != 0 || id > UINT32_MAX)
+            return 0;
+        ids[i] = (uint32_t)id;
+    }
+    return 1;
+}
+
 int main(int argc, char **argv)
 {
     static uint8_t piece[4096];
-    uint32_t ids[NELQUBAT_MAX_ROWS];
+    static uint32_t ids[NELQUBAT_MAX_ROWS];
+    int has_file = argc > 2 && strcmp(argv[1], "--from") == 0;
+    int first = has_file ? 3 : 1;
     size_t n;
-    for (int i = 1; i < argc; i++) {
-        char *end;
-        unsigned long id = strtoul(argv[i], &end, 10);
-        if (i > NELQUBAT_MAX_ROWS || argv[i][0] < '0' || argv[i][0] > '9' || *end != 0 || id > UINT32_MAX) {
-            fprintf(stderr, "usage: rows [ID...] < SESSION\n");
-            return 2;
-        }
-        ids[i - 1] = (uint32_t)id;
+    if (!take_ids(argv + first, argc - first, ids)) {
+        fprintf(stderr, "usage: rows [--from FILE] [ID...] < SESSION\n");
+        return 2;
     }
     if (!nelqubat_is_version()) {
         fprintf(stderr, "rows: header and library are not of one version\n");
         return 2;
     }
     nelqubat_start(handle, sizeof handle, table, sizeof table, id_index, sizeof id_index);
+    if (has_file && !restore(argv[2]))
+        return 1;
     do
         n = fread(piece, 1, sizeof piece, stdin);
-    while (n != 0 && feed(piece, n, ids, argc - 1));
+    while (n != 0 && feed(piece, n, ids, argc - first));
     return finish();
 }

@@ -12,6 +12,10 @@
 /* What is added to an input's first byte, for runs and steps in turn. */
 enum { BY_RUNS = 4 };
 
+/* How an image is read: its checks are made right, and a table is resumed; and what is
+ * added for output that is a byte short, and for a round that goes back first. */
+enum { SEALED = 32 + 4, SHORT = 64, BACK_FIRST = 128 };
+
 static uint8_t session[1 << 16];
 static size_t session_n;
 static uint8_t input[sizeof session + PLAIN_IMAGE_BYTES + PLAIN_BLOCK_BYTES];
@@ -84,7 +88,7 @@ static bool add_tables(const struct plain_reader *r, const uint8_t *table, const
         return false;
     if (plain_save(r, table, PLAIN_TABLE_BYTES, image, sizeof image, &n) != 0)
         return true;
-    begin((uint8_t)(1 + files % 2 * BY_RUNS), 32 + 4);
+    begin((uint8_t)(1 + files % 2 * BY_RUNS), SEALED + BACK_FIRST);
     add(image, n);
     add(session + at, left);
     return finish();
@@ -180,24 +184,44 @@ static void add_image(uint32_t rows)
     input_n += n;
 }
 
-/* Images about a change of version and of a full table, true and with versions, blocks
- * or rows that do not fit. */
+/* Damages an image, its version most often, or the time of a side. */
+static void damage(unsigned seed, struct bytes *image)
+{
+    struct dice d = dice_seeded(seed);
+    if (seed % 3 == 0)
+        damage_image(&d, IMAGE_TIME, image);
+    else
+        damage_image(&d, (enum image_damage)dice_between(&d, IMAGE_VERSION, IMAGE_NAMED), image);
+}
+
+/* An image of so many rows, with times and without them, true and damaged, that is moved
+ * in each way. */
+static bool add_images_of(uint32_t rows)
+{
+    for (unsigned how = 0; how < 32; how++) {
+        struct bytes image = {input + 2, 0, sizeof input - 2};
+        bool aged = how / 2 % 2 == 1;
+        begin((uint8_t)(1 + how % 2 * BY_RUNS), (uint8_t)(SEALED + (how / 4 % 2) * SHORT + (aged ? 0 : BACK_FIRST)));
+        add_image(rows);
+        image.n = input_n - 2;
+        if (aged)
+            age_image(&image);
+        if (how >= 8)
+            damage(how, &image);
+        input_n = image.n + 2;
+        if (!finish())
+            return false;
+    }
+    return true;
+}
+
+/* Images of few rows, about a change of version, and of a full table. */
 static bool add_images(void)
 {
-    static const uint32_t rows[] = {PLAIN_ROWS_OF_VERSION_1, PLAIN_ROWS_OF_VERSION_1 + 1, PLAIN_MAX_ROWS};
+    static const uint32_t rows[] = {0, 1, 5, 9, PLAIN_ROWS_OF_VERSION_1, PLAIN_ROWS_OF_VERSION_1 + 1, PLAIN_MAX_ROWS};
     for (size_t i = 0; i < sizeof rows / sizeof *rows; i++)
-        for (unsigned how = 0; how < 16; how++) {
-            struct dice d = dice_seeded(how);
-            struct bytes image = {input + 2, 0, sizeof input - 2};
-            begin((uint8_t)(1 + how % 2 * BY_RUNS), 32 + 4);
-            add_image(rows[i]);
-            image.n = input_n - 2;
-            if (how != 0)
-                damage_image(&d, (enum image_damage)dice_between(&d, IMAGE_VERSION, IMAGE_NAMED), &image);
-            input_n = image.n + 2;
-            if (!finish())
-                return false;
-        }
+        if (!add_images_of(rows[i]))
+            return false;
     return true;
 }
 

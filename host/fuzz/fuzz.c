@@ -4,7 +4,7 @@
  * Byte 0 of the input says what is done, with 4 more by runs and steps in turn
  * and not by steps alone, and byte 1 how; the rest is used as
  *   0  a session, stepped through in pieces
- *   1  an image that is restored, and bytes to step through after it
+ *   1  an image that is moved both ways and restored, and bytes to step through after it
  *   2  a handle, rows of a table, as many places of an index, and bytes to step through
  *   3  a message to read, and a record to write
  * With FUZZ_MAIN it has a main that runs every file which is named.
@@ -107,6 +107,21 @@ static void do_session(struct rest input, unsigned how)
     feed(input, how >> 4);
 }
 
+/* Moves an image both ways, into room of its length or one byte less, and then there
+ * and back. */
+static void move_image(struct rest image, unsigned how)
+{
+    struct call c = usual_call(CALL_FORWARD);
+    size_t room = image.n - (how & 64 && image.n > 0 ? 1 : 0);
+    c.memory_n = (uint32_t)(room < IMAGE_ROOM ? room : IMAGE_ROOM);
+    call(c, image);
+    c.op = CALL_BACK;
+    call(c, image);
+    c = usual_call(CALL_ROUND);
+    c.k = how & 128 ? 1 : 0;
+    call(c, image);
+}
+
 /* The image's checks are made right, where asked, so that more than the
  * checks is met. */
 static void do_image(struct rest input, unsigned how)
@@ -119,6 +134,7 @@ static void do_image(struct rest input, unsigned how)
     if (how & 32)
         seal_image(&sealed);
     part.at = image;
+    move_image(part, how);
     call_usual(CALL_RESTORE, part);
     look(how);
     feed(input, how);

@@ -142,6 +142,14 @@ void edge_record(struct dice *d, uint8_t *record)
     }
 }
 
+/* When a side was set. */
+static void set_side_time(struct dice *d, uint8_t *at)
+{
+    static const uint64_t times[] = {0, 1, PLAIN_MAX_TIME, PLAIN_MAX_TIME + 1, PLAIN_UNKNOWN_TIME - 1,
+                                     PLAIN_UNKNOWN_TIME, PLAIN_UNKNOWN_TIME / 2};
+    nelqubat_set(at, 8, times[dice_below(d, sizeof times / sizeof *times)]);
+}
+
 void edge_row(struct dice *d, uint8_t *row)
 {
     static const struct edge edges[] = {
@@ -157,6 +165,8 @@ void edge_row(struct dice *d, uint8_t *row)
         SET_EDGE(d, directory_edges, row);
     else if (dice_chance(d, 20))
         set_greatest(d, row + ROW_TIME, 8, PLAIN_MAX_TIME);
+    else if (dice_chance(d, 30))
+        set_side_time(d, row + (dice_chance(d, 50) ? ROW_BID_TIME : ROW_ASK_TIME));
     else
         SET_EDGE(d, edges, row);
 }

@@ -82,6 +82,12 @@ size_t make_piece_size(struct dice *d, size_t left);
  * `waiting` asks for one that has neither ended nor refused. */
 void make_row(struct dice *d, uint32_t id, uint8_t *row);
 void break_row(struct dice *d, uint8_t *row);
+
+/* Breaks a rule of bytes 106-123: where rows have the times of their sides, that of a
+ * seen side is then out of range or that of an unseen one is set, and where they have
+ * none, one is set; or one of the last two bytes is. */
+void break_times(struct dice *d, bool timed, uint8_t *row);
+
 void make_reader(struct dice *d, bool waiting, struct plain_reader *r,
                  uint8_t *table);
 void break_reader(struct dice *d, struct plain_reader *r); /* leads to 20 */
@@ -116,20 +122,32 @@ void put_packet_for(struct dice *d, const struct plain_reader *r,
 void make_quoted(struct dice *d, bool blurred, struct plain_reader *r,
                  uint8_t *table, struct bytes *s);
 
+/* The same sort of handle, a row of its table that takes quotes, and packets of quotes to
+ * it, many at an end of the range of times, often with a purge behind them. Where broken,
+ * one of the row's times breaks its rule. */
+void make_timed(struct dice *d, bool broken, struct plain_reader *r,
+                uint8_t *table, struct bytes *s);
+
 /* IMAGE_RESIZED gives an image one of the counts of blocks about which versions and
  * lengths change, IMAGE_NAMED names other rows, both often with the version that is
- * then right. */
+ * then right. IMAGE_RELABELLED gives an image with the times of sides the version of one
+ * without them, or the other way round, and leaves the times; IMAGE_TIME breaks one. */
 enum image_damage {
     IMAGE_EMPTY, IMAGE_PART, IMAGE_LONG, IMAGE_CHECK, IMAGE_NUMBER, IMAGE_COUNT,
     IMAGE_NEXT_RANGE, IMAGE_NEXT_DIFFERS, IMAGE_BLOCK_DROPPED, IMAGE_BLOCK_ADDED,
-    IMAGE_BLOCKS_SWAPPED, IMAGE_VERSION, IMAGE_RESIZED, IMAGE_NAMED, IMAGE_KNOWN,
-    IMAGE_EVENT, IMAGE_ROWS, IMAGE_LIVE, IMAGE_PADDING, IMAGE_UNKNOWN_SESSION,
-    IMAGE_ROW, IMAGE_ID_TWICE, IMAGE_SLOT, IMAGE_ANY_BYTE, IMAGE_SEVERAL,
+    IMAGE_BLOCKS_SWAPPED, IMAGE_VERSION, IMAGE_RELABELLED, IMAGE_RESIZED, IMAGE_NAMED,
+    IMAGE_KNOWN, IMAGE_EVENT, IMAGE_ROWS, IMAGE_LIVE, IMAGE_PADDING,
+    IMAGE_UNKNOWN_SESSION, IMAGE_ROW, IMAGE_TIME, IMAGE_ID_TWICE, IMAGE_SLOT,
+    IMAGE_ANY_BYTE, IMAGE_SEVERAL,
     IMAGE_DAMAGES
 };
 
-/* Makes a true image; the room is at least PLAIN_IMAGE_BYTES. */
+/* Makes a true image, of version 3 or, about as often, of the one of 1 and 2 that its
+ * rows ask for; the room is at least PLAIN_IMAGE_BYTES. */
 void make_image(struct dice *d, struct bytes *image);
+
+/* Makes an image of version 3 one of version 1 or 2. */
+void age_image(struct bytes *image);
 
 /* Damages an image and makes its checks right again, save where the damage is
  * to a check. The room is one block more than PLAIN_IMAGE_BYTES. */

@@ -2,14 +2,6 @@
 
 #include <string.h>
 
-void make_image(struct dice *d, struct bytes *image)
-{
-    uint8_t table[PLAIN_TABLE_BYTES];
-    struct plain_reader r;
-    make_reader(d, false, &r, table);
-    plain_save(&r, table, sizeof table, image->at, image->room, &image->n);
-}
-
 void seal_image(struct bytes *image)
 {
     for (size_t at = 0; at + PLAIN_BLOCK_BYTES <= image->n; at += PLAIN_BLOCK_BYTES) {
@@ -34,6 +26,48 @@ static uint8_t *slot(struct bytes *image, size_t k)
 static size_t blocks_for(uint64_t rows)
 {
     return 1 + (size_t)(rows + PLAIN_BLOCK_ROWS - 1) / PLAIN_BLOCK_ROWS;
+}
+
+/* The version of an image without the times of sides that names so many rows. */
+static uint64_t version_for(uint64_t rows)
+{
+    return rows <= PLAIN_ROWS_OF_VERSION_1 ? 1 : 2;
+}
+
+static void set_versions(struct bytes *image, uint64_t version)
+{
+    for (size_t at = 0; at < image->n; at += PLAIN_BLOCK_BYTES)
+        set_number(image->at + at + 4, 2, version);
+}
+
+static bool is_timed(const struct bytes *image)
+{
+    return get_number(image->at + 4, 2) == 3;
+}
+
+/* The version that an image has once it names so many rows. */
+static uint64_t version_like(const struct bytes *image, uint64_t rows)
+{
+    return is_timed(image) ? 3 : version_for(rows);
+}
+
+void age_image(struct bytes *image)
+{
+    uint64_t rows = get_number(image->at + 26, 2);
+    for (size_t k = 0; k < rows; k++)
+        memset(slot(image, k) + ROW_BID_TIME, 0, ROW_TAIL - ROW_BID_TIME);
+    set_versions(image, version_for(rows));
+    seal_image(image);
+}
+
+void make_image(struct dice *d, struct bytes *image)
+{
+    uint8_t table[PLAIN_TABLE_BYTES];
+    struct plain_reader r;
+    make_reader(d, false, &r, table);
+    plain_save(&r, table, sizeof table, image->at, image->room, &image->n);
+    if (dice_chance(d, 50))
+        age_image(image);
 }
 
 /* Gives an image so many blocks, if there is room; new ones are all zero. */
@@ -120,22 +154,21 @@ static void damage_blocks(struct dice *d, enum image_damage kind,
 
 /* Versions. */
 
-static uint64_t version_for(uint64_t rows)
-{
-    return rows <= PLAIN_ROWS_OF_VERSION_1 ? 1 : 2;
-}
-
-static void set_versions(struct bytes *image, uint64_t version)
-{
-    for (size_t at = 0; at < image->n; at += PLAIN_BLOCK_BYTES)
-        set_number(image->at + at + 4, 2, version);
-}
-
-/* A version from 0 to 3, or any other, in all blocks or in one. */
+/* A version from 0 to 4, or any other, in all blocks or in one. */
 static void change_version(struct dice *d, struct bytes *image)
 {
-    uint64_t version = dice_chance(d, 80) ? dice_below(d, 4) : dice_below(d, 1 << 16);
+    uint64_t version = dice_chance(d, 80) ? dice_below(d, 5) : dice_below(d, 1 << 16);
     if (dice_chance(d, 60))
+        set_versions(image, version);
+    else
+        set_number(pick_block(d, image) + 4, 2, version);
+}
+
+/* The version of the other sort, in all blocks or in one. */
+static void relabel(struct dice *d, struct bytes *image)
+{
+    uint64_t version = is_timed(image) ? version_for(get_number(image->at + 26, 2)) : 3;
+    if (dice_chance(d, 70))
         set_versions(image, version);
     else
         set_number(pick_block(d, image) + 4, 2, version);
@@ -152,9 +185,9 @@ static void resize(struct dice *d, struct bytes *image)
     set_blocks(image, count);
     number_blocks(image);
     if (dice_chance(d, 40))
-        set_versions(image, version_for(get_number(image->at + 26, 2)));
+        set_versions(image, version_like(image, get_number(image->at + 26, 2)));
     else if (dice_chance(d, 50))
-        set_versions(image, version_for((count - 1) * PLAIN_BLOCK_ROWS));
+        set_versions(image, version_like(image, (count - 1) * PLAIN_BLOCK_ROWS));
 }
 
 /* Other rows are named; the version is theirs, or stays. */
@@ -167,7 +200,7 @@ static void name_rows(struct dice *d, struct bytes *image)
         rows = edges[dice_below(d, sizeof edges / sizeof *edges)];
     set_number(image->at + 26, 2, rows);
     if (dice_chance(d, 50))
-        set_versions(image, version_for(rows));
+        set_versions(image, version_like(image, rows));
 }
 
 static void damage_version(struct dice *d, enum image_damage kind,
@@ -175,6 +208,8 @@ static void damage_version(struct dice *d, enum image_damage kind,
 {
     if (kind == IMAGE_VERSION)
         change_version(d, image);
+    else if (kind == IMAGE_RELABELLED)
+        relabel(d, image);
     else if (kind == IMAGE_RESIZED)
         resize(d, image);
     else
@@ -221,6 +256,8 @@ static void damage_rows(struct dice *d, enum image_damage kind,
     row = slot(image, dice_below(d, rows));
     if (kind == IMAGE_ROW) {
         break_row(d, row);
+    } else if (kind == IMAGE_TIME) {
+        break_times(d, is_timed(image), row);
     } else if (kind == IMAGE_ID_TWICE) {
         memmove(row, slot(image, dice_below(d, rows)), 4);
     } else if (rows % PLAIN_BLOCK_ROWS != 0) {

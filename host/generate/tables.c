@@ -11,6 +11,24 @@ static void make_row_side(struct dice *d, uint8_t *side)
         set_number(side + 4, 4, 0);
 }
 
+/* The places in a row of a side's numbers and its time, and the bit that says it was
+ * seen. */
+static const struct {
+    size_t numbers, time;
+    uint8_t bit;
+} sides[] = {{ROW_BID, ROW_BID_TIME, 1}, {ROW_ASK, ROW_ASK_TIME, 2}};
+
+enum { SIDES = sizeof sides / sizeof *sides };
+
+/* A time that a seen side may have, often at an end of the range or unknown. */
+static uint64_t pick_time(struct dice *d)
+{
+    static const uint64_t ends[] = {0, PLAIN_MAX_TIME, PLAIN_UNKNOWN_TIME};
+    if (dice_chance(d, 40))
+        return ends[dice_below(d, sizeof ends / sizeof *ends)];
+    return pick_number(d, PLAIN_MAX_TIME);
+}
+
 void make_row(struct dice *d, uint32_t id, uint8_t *row)
 {
     struct plain_message m;
@@ -29,10 +47,19 @@ void make_row(struct dice *d, uint32_t id, uint8_t *row)
         row[ROW_STATE] = pick(d, states);
     row[ROW_SIDES] = (uint8_t)dice_below(d, 4);
     row[ROW_CONDITION] = row[ROW_SIDES] ? pick(d, conditions) : ' ';
-    if (row[ROW_SIDES] & 1)
-        make_row_side(d, row + ROW_BID);
-    if (row[ROW_SIDES] & 2)
-        make_row_side(d, row + ROW_ASK);
+    for (size_t i = 0; i < SIDES; i++)
+        if (row[ROW_SIDES] & sides[i].bit) {
+            make_row_side(d, row + sides[i].numbers);
+            set_number(row + sides[i].time, 8, pick_time(d));
+        }
+}
+
+/* What restoring a row of an old image leaves. */
+static void forget_times(uint8_t *row)
+{
+    for (size_t i = 0; i < SIDES; i++)
+        if (row[ROW_SIDES] & sides[i].bit)
+            set_number(row + sides[i].time, 8, PLAIN_UNKNOWN_TIME);
 }
 
 /* Breaks a rule of the directory's part of a row. */
@@ -60,6 +87,40 @@ static void break_row_directory(struct dice *d, uint8_t *row)
         break;
     }
     memcpy(row, m + 11, ROW_STATE);
+}
+
+/* Past the range, and not unknown: just past it, all bits but one, or any. */
+static uint64_t pick_time_past(struct dice *d)
+{
+    uint64_t any = dice_between(d, PLAIN_MAX_TIME + 1, PLAIN_UNKNOWN_TIME - 1);
+    switch (dice_below(d, 4)) {
+    case 0:
+        return PLAIN_MAX_TIME + 1;
+    case 1:
+        return PLAIN_UNKNOWN_TIME - 1;
+    case 2:
+        return PLAIN_UNKNOWN_TIME ^ UINT64_C(1) << dice_below(d, 64);
+    default:
+        return any;
+    }
+}
+
+/* Not zero, and else in range or unknown, as that of a seen side may be. */
+static uint64_t pick_time_set(struct dice *d)
+{
+    uint64_t time = pick_time(d);
+    return time != 0 ? time : 1;
+}
+
+void break_times(struct dice *d, bool timed, uint8_t *row)
+{
+    size_t side = dice_below(d, SIDES);
+    if (dice_chance(d, 30))
+        set_between(d, &row[dice_between(d, ROW_TAIL, PLAIN_ROW_BYTES - 1)], 1, 255);
+    else if (timed && (row[ROW_SIDES] & sides[side].bit))
+        set_number(row + sides[side].time, 8, pick_time_past(d));
+    else
+        set_number(row + sides[side].time, 8, pick_time_set(d));
 }
 
 /* Breaks a rule of a row's quotes. */
@@ -91,7 +152,7 @@ static void break_row_quotes(struct dice *d, uint8_t *row)
 
 void break_row(struct dice *d, uint8_t *row)
 {
-    switch (dice_below(d, 6)) {
+    switch (dice_below(d, 7)) {
     case 0:
     case 1:
         break_row_directory(d, row);
@@ -106,8 +167,11 @@ void break_row(struct dice *d, uint8_t *row)
         if (row[ROW_STATE] == 0 || memchr(states, row[ROW_STATE], 8) != NULL)
             set_number(row + ROW_TIME, 8, PLAIN_MAX_TIME + 1 + dice_below(d, 1000));
         break;
+    case 5:
+        break_times(d, true, row);
+        break;
     default:
-        set_between(d, &row[dice_chance(d, 20) ? ROW_GAP : dice_between(d, ROW_TAIL, 123)], 1, 255);
+        set_between(d, &row[dice_chance(d, 50) ? ROW_GAP : dice_between(d, ROW_TAIL, PLAIN_ROW_BYTES - 1)], 1, 255);
         break;
     }
 }
@@ -126,12 +190,17 @@ static uint32_t pick_row_count(struct dice *d)
     return (uint32_t)dice_below(d, dice_chance(d, 15) ? MOST + 1 : 20);
 }
 
-/* Rows with ids that differ; then zeros, or other bytes, past them. */
+/* Rows with ids that differ, now and then with no time that is known; then zeros, or
+ * other bytes, past them. */
 static void make_rows(struct dice *d, uint32_t rows, uint8_t *table)
 {
     uint32_t first = (uint32_t)dice_next(d), step = (uint32_t)dice_next(d) | 1;
-    for (uint32_t k = 0; k < rows; k++)
+    bool forgets = dice_chance(d, 15);
+    for (uint32_t k = 0; k < rows; k++) {
         make_row(d, first + k * step, table + k * (size_t)PLAIN_ROW_BYTES);
+        if (forgets)
+            forget_times(table + k * (size_t)PLAIN_ROW_BYTES);
+    }
     memset(table + rows * (size_t)PLAIN_ROW_BYTES, 0,
            (PLAIN_MAX_ROWS - rows) * (size_t)PLAIN_ROW_BYTES);
     if (dice_chance(d, 20))
@@ -280,12 +349,9 @@ size_t make_length(struct dice *d, size_t exact)
     }
 }
 
-/* A directory for a row that is there: as it stands, with other free fields,
- * or with any byte changed. */
-static void put_row_directory(struct dice *d, const uint8_t *row,
-                              struct bytes *s)
+/* A directory's message for a row that is there, with other free fields. */
+static void lay_row_directory(struct dice *d, const uint8_t *row, uint8_t *m)
 {
-    uint8_t m[PLAIN_MESSAGE_BYTES];
     m[0] = 'm';
     dice_fill(d, m + 1, 2);
     set_number(m + 3, 8, pick_number(d, PLAIN_MAX_TIME));
@@ -294,8 +360,24 @@ static void put_row_directory(struct dice *d, const uint8_t *row,
     m[45] = pick(d, tradables);
     m[46] = pick(d, variations);
     dice_fill(d, m + 47, 16);
+}
+
+/* One that the row takes, or one with any byte changed. */
+static void put_row_directory(struct dice *d, const uint8_t *row,
+                              struct bytes *s)
+{
+    uint8_t m[PLAIN_MESSAGE_BYTES];
+    lay_row_directory(d, row, m);
     if (dice_chance(d, 50))
         flip_bit(d, &m[dice_between(d, 15, 46)]);
+    put_packet(s, 'S', m, sizeof m);
+}
+
+static void put_purge(struct dice *d, const uint8_t *row, struct bytes *s)
+{
+    uint8_t m[PLAIN_MESSAGE_BYTES];
+    lay_row_directory(d, row, m);
+    m[45] = 'N';
     put_packet(s, 'S', m, sizeof m);
 }
 
@@ -335,22 +417,52 @@ static void set_trading(struct dice *d, bool blurred, uint8_t *row)
         set_outside(d, &row[ROW_TRADABLE], tradables);
 }
 
-void make_quoted(struct dice *d, bool blurred, struct plain_reader *r,
-                 uint8_t *table, struct bytes *s)
+/* A handle that reads messages on, and one of its rows. */
+static uint8_t *make_reading(struct dice *d, struct plain_reader *r, uint8_t *table)
 {
-    struct plain_message m;
-    uint8_t *row;
     do
         make_reader(d, true, r, table);
     while (r->rows == 0);
     r->logged_in = true;
     r->used = 0;
-    r->next = 1 + pick_number(d, PLAIN_MAX_NUMBER - 2);
-    row = table + dice_below(d, r->rows) * PLAIN_ROW_BYTES;
+    r->next = 1 + pick_number(d, PLAIN_MAX_NUMBER - 10);
+    return table + dice_below(d, r->rows) * PLAIN_ROW_BYTES;
+}
+
+/* Any quote to a row. */
+static void make_quote_for(struct dice *d, const uint8_t *row, struct plain_message *m)
+{
+    make_message(d, (enum plain_kind)dice_between(d, PLAIN_BOTH_SHORT, PLAIN_ONE_LONG), m);
+    m->id = (uint32_t)get_number(row, 4);
+}
+
+void make_quoted(struct dice *d, bool blurred, struct plain_reader *r,
+                 uint8_t *table, struct bytes *s)
+{
+    struct plain_message m;
+    uint8_t *row = make_reading(d, r, table);
     set_trading(d, blurred, row);
-    make_message(d, (enum plain_kind)dice_between(d, PLAIN_BOTH_SHORT, PLAIN_ONE_LONG), &m);
-    m.id = (uint32_t)get_number(row, 4);
+    make_quote_for(d, row, &m);
     if (dice_chance(d, 30))
         vary_prices(d, &m);
     put_message(s, &m);
+}
+
+void make_timed(struct dice *d, bool broken, struct plain_reader *r,
+                uint8_t *table, struct bytes *s)
+{
+    struct plain_message m;
+    uint8_t *row = make_reading(d, r, table);
+    row[ROW_STATE] = pick(d, quoting_states);
+    row[ROW_TRADABLE] = 'Y';
+    for (size_t i = dice_below(d, 4); i > 0; i--) {
+        make_quote_for(d, row, &m);
+        if (dice_chance(d, 60))
+            m.time = dice_chance(d, 50) ? 0 : PLAIN_MAX_TIME;
+        put_message(s, &m);
+    }
+    if (dice_chance(d, 50))
+        put_purge(d, row, s);
+    if (broken)
+        break_times(d, true, row);
 }

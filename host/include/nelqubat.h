@@ -45,13 +45,18 @@
  * host wrote there or lent another reader's index, the call is refused with 20 and
  * its packet is left.
  *
- * Saved tables: an image with up to 256 rows has version 1 and the bytes that it
- * always had; one with more rows has version 2. A restore takes both, each with its
- * own rows only. A library of version 4 or less answers 21 to any image with more
- * than 256 rows.
+ * Saved tables: an image has version 3, whatever its rows, and keeps the time of each
+ * side. Older libraries wrote version 1 with up to 256 rows and version 2 with more,
+ * which have no such times. A restore takes all three, 1 and 2 each with its own rows
+ * only; from those two the time of each side that was seen is unknown. A library of
+ * version 5 or less answers 23 to version 3, and one of version 4 or less 21 to any
+ * image with more than 256 rows. nelqubat_forward makes version 3 of an old image;
+ * nelqubat_back makes the old version of an image, for such a library, and its times
+ * are lost: forward then back gives the same bytes, and back then forward does exactly
+ * where the time of every seen side was unknown.
  *
  * Stack: measured by `host/run stack`, a step and a run take up to 1,400 bytes,
- * saving and restoring up to 2,600 and every other call up to 400;
+ * saving, restoring and moving up to 2,600 and every other call up to 400;
  * NELQUBAT_STACK_BYTES is more than any was seen to take.
  *
  * Threads: calls that share no memory may run at the same time. While a step, a
@@ -90,8 +95,12 @@ extern "C" {
  * and find are lent behind the table; a program for 3 does not build with it. 5 is
  * 4 with 500 instruments where 4 had 256: table, index and the longest image are
  * larger, and an image with more than 256 rows has version 2. A program for 4 that
- * takes its sizes from here needs no change, only to be built anew. */
-#define NELQUBAT_VERSION 5
+ * takes its sizes from here needs no change, only to be built anew. 6 is 5 with the
+ * time of each side in a row, where 5 had zeros, with images of version 3, and with
+ * nelqubat_forward and nelqubat_back. Sizes, the other calls and all else of a row are
+ * as in 5, and images that 5 saved are restored; a program for 5 needs no change, only
+ * to be built anew, and then saves images that 5 does not read. */
+#define NELQUBAT_VERSION 6
 
 /* Sizes, in bytes. By the most rows, 500, a table has 62,000, an index 1,000 and the
  * longest image 64,512, which is 126 blocks. */
@@ -135,8 +144,9 @@ enum {
     NELQUBAT_REFUSED_IMAGE_LENGTH = 21,   /* 0, not whole blocks, or over 126 blocks */
     NELQUBAT_REFUSED_CHECK = 22,          /* a block's check is wrong */
     NELQUBAT_REFUSED_HEAD = 23,           /* a block's number, count or next number, or a version
-                                             that does not fit the rows */
-    NELQUBAT_REFUSED_CONTENTS = 24,       /* contents break the row or block rules */
+                                             that is not known, does not fit the rows, or is not
+                                             one that the move starts from */
+    NELQUBAT_REFUSED_CONTENTS = 24,       /* contents break the row or block rules of the version */
     NELQUBAT_REFUSED_SHORT = 25,          /* output memory too short */
     NELQUBAT_REFUSED_RECORD = 26,         /* no record, or it breaks its field rules */
     NELQUBAT_REFUSED_CEILING = 27         /* a run's ceiling is over 1,000 packets */
@@ -153,8 +163,8 @@ static inline const char *nelqubat_refusal_name(unsigned refusal)
         "message field outside its list or range", "no row has this id",
         "instrument does not trade", "directory changes a fixed field",
         "table is full", 0, 0, 0, "memory has the wrong length, is no handle or has a false index",
-        "image length is wrong", "block check is wrong", "block head is wrong",
-        "contents break the row or block rules", "output memory is too short",
+        "image length is wrong", "block check is wrong", "block head or version is wrong",
+        "contents break the row or block rules of the version", "output memory is too short",
         "record breaks its field rules", "ceiling is over 1,000 packets"};
     const char *name = refusal < 28 ? names[refusal] : 0;
     return name ? name : "no refusal has this number";
@@ -175,8 +185,9 @@ enum {
     NELQUBAT_CEILING = 9    /* of a run alone: as many packets as it may finish */
 };
 
-/* The parts of an answer. `kind` and `taken` are those of a step, `written`
- * is that of save, write and line, `found` and `found_at` are those of find. */
+/* The parts of an answer. `kind` and `taken` are those of a step, `written` is
+ * that of save, forward, back, write and line, `found` and `found_at` are those of
+ * find. */
 
 static inline unsigned nelqubat_refusal(uint32_t answer)
 {
@@ -309,8 +320,8 @@ uint64_t nelqubat_run(uint8_t *handle, size_t handle_n,
                       uint8_t *index, size_t index_n,
                       const uint8_t *piece, size_t piece_n, uint32_t ceiling);
 
-/* Writes the saved table, 512 bytes for each block, to the front of `out`: version 1
- * with up to 256 rows, version 2 with more.
+/* Writes the saved table, 512 bytes for each block, to the front of `out`, always
+ * version 3.
  * Answer: the count written, or 20 (handle, table, limits), 24 (the rows or
  * the handle cannot be saved), 25 (out too short), and then `out` is as it
  * was. Bytes of `out` after the count are as they were. Held bytes and a
@@ -319,8 +330,10 @@ uint32_t nelqubat_save(const uint8_t *handle, size_t handle_n,
                        const uint8_t *table, size_t table_n,
                        uint8_t *out, size_t out_n);
 
-/* Makes handle, table and index from an image; the handle waits for a login with
- * the saved session and next number. What was in the three before does not matter.
+/* Makes handle, table and index from an image of version 1, 2 or 3; the handle waits
+ * for a login with the saved session and next number. What was in the three before
+ * does not matter. From version 1 or 2, each side that was seen gets the time
+ * NELQUBAT_TIME_UNKNOWN.
  * Answer: 0, or 20 to 24. Handle memory that is not 305 bytes: 20, and
  * nothing changes. Any other refusal leaves table and index and makes the handle
  * fresh. */
@@ -328,6 +341,24 @@ uint32_t nelqubat_restore(uint8_t *handle, size_t handle_n,
                           uint8_t *table, size_t table_n,
                           uint8_t *index, size_t index_n,
                           const uint8_t *image, size_t image_n);
+
+/* Moves an image forward: from version 1 or 2 to version 3, where the time of each
+ * side that was seen is NELQUBAT_TIME_UNKNOWN. Versions and checks of the blocks are
+ * new, all else is the same, and so is the length. Restoring the old image and
+ * restoring the moved one leave the same.
+ * Answer: the count written to the front of `out`, which is image_n; or 21, 22, 23
+ * (an image of version 3 too), 24 (by the rules of the image's own version), 25 (out
+ * shorter than the image), and then `out` is as it was. Bytes of `out` after the
+ * count are as they were. */
+uint32_t nelqubat_forward(const uint8_t *image, size_t image_n,
+                          uint8_t *out, size_t out_n);
+
+/* Moves an image back: from version 3 to version 1 with up to 256 rows, to version 2
+ * with more, for a library of version 5 or less. The times of both sides become zero,
+ * so that each one that was known is lost. All else as with nelqubat_forward, but that
+ * an image of version 1 or 2 is refused with 23. */
+uint32_t nelqubat_back(const uint8_t *image, size_t image_n,
+                       uint8_t *out, size_t out_n);
 
 /* Reads one message (no packet around it) into a record of 112 bytes. A side's
  * price of 0 is read as none, which the record holds as 0; a strike of 0 is a
@@ -695,8 +726,14 @@ enum {
     NELQUBAT_ROW_BID = 56,        /* 20: where it was seen, price 0 is none, never a number */
     NELQUBAT_ROW_ASK = 76,        /* 20: likewise */
     NELQUBAT_ROW_TRACKING = 96,   /* 2: of the row's latest message */
-    NELQUBAT_ROW_TIME = 98        /* 8: of the row's latest message */
+    NELQUBAT_ROW_TIME = 98,       /* 8: of the row's latest message */
+    NELQUBAT_ROW_BID_TIME = 106,  /* 8: of the latest message that set the bid; 0 where unseen */
+    NELQUBAT_ROW_ASK_TIME = 114   /* 8: likewise of the ask; bytes 55, 122 and 123 are zero */
 };
+
+/* The time of a side that was seen before its table was saved by a library that kept
+ * no such times. */
+#define NELQUBAT_TIME_UNKNOWN UINT64_MAX
 
 /* Row k of a table, k below the handle's rows in use. */
 static inline const uint8_t *nelqubat_row(const uint8_t *table, size_t k)
@@ -835,6 +872,33 @@ static inline uint16_t nelqubat_row_tracking(const uint8_t *row)
 static inline uint64_t nelqubat_row_time(const uint8_t *row)
 {
     return nelqubat_get(row + NELQUBAT_ROW_TIME, 8);
+}
+
+/* The number that stands for the time of the latest message that set the side. A side
+ * is one of three, told apart by nelqubat_row_seen_bid and nelqubat_row_knows_bid_time:
+ * never quoted, and the number is 0; quoted at an unknown time, and the number is
+ * NELQUBAT_TIME_UNKNOWN; quoted at a known time, which is the number, and may be 0. */
+
+static inline uint64_t nelqubat_row_bid_time(const uint8_t *row)
+{
+    return nelqubat_get(row + NELQUBAT_ROW_BID_TIME, 8);
+}
+
+static inline uint64_t nelqubat_row_ask_time(const uint8_t *row)
+{
+    return nelqubat_get(row + NELQUBAT_ROW_ASK_TIME, 8);
+}
+
+/* Whether the side was seen, and the time of its latest message is known. */
+
+static inline int nelqubat_row_knows_bid_time(const uint8_t *row)
+{
+    return nelqubat_row_seen_bid(row) && nelqubat_row_bid_time(row) != NELQUBAT_TIME_UNKNOWN;
+}
+
+static inline int nelqubat_row_knows_ask_time(const uint8_t *row)
+{
+    return nelqubat_row_seen_ask(row) && nelqubat_row_ask_time(row) != NELQUBAT_TIME_UNKNOWN;
 }
 
 #ifdef __cplusplus

@@ -1,8 +1,9 @@
 /* A reader of one Top of Market session, in plain C11.
  *
  * It reads the server's SoupBinTCP byte stream piece by piece, keeps a table
- * of at most PLAIN_MAX_ROWS instruments, saves and restores that table, and reads
- * and writes single messages. The caller lends all memory; there is no other state.
+ * of at most PLAIN_MAX_ROWS instruments, saves and restores that table, moves saved
+ * tables between versions, and reads and writes single messages. The caller lends all
+ * memory; there is no other state.
  * Refusals are the numbers of document 01; 0 means done.
  */
 #ifndef PLAIN_H
@@ -12,10 +13,14 @@
 #include <stddef.h>
 #include <stdint.h>
 
-/* The most rows of a table, from which the sizes below follow. Built with 256 it
- * is the reader from before document 02 raised the number. */
+/* The most rows of a table, from which the sizes below follow, and the newest version
+ * of an image. Built with version 2 it is the reader from before document 02 gave each
+ * side a time; with 256 rows and version 1, the one from before it raised the rows. */
 #ifndef PLAIN_MAX_ROWS
 #define PLAIN_MAX_ROWS 500
+#endif
+#ifndef PLAIN_NEWEST_VERSION
+#define PLAIN_NEWEST_VERSION 3
 #endif
 
 enum {
@@ -26,7 +31,7 @@ enum {
     PLAIN_BLOCK_ROWS = 4,
     PLAIN_MAX_BLOCKS = 1 + (PLAIN_MAX_ROWS + PLAIN_BLOCK_ROWS - 1) / PLAIN_BLOCK_ROWS,
     PLAIN_IMAGE_BYTES = PLAIN_MAX_BLOCKS * PLAIN_BLOCK_BYTES,
-    PLAIN_ROWS_OF_VERSION_1 = 256, /* an image with more of them has version 2 */
+    PLAIN_ROWS_OF_VERSION_1 = 256, /* an image without times that has more is of version 2 */
     PLAIN_PACKET_BYTES = 258,      /* the longest packet, its length included */
     PLAIN_MESSAGE_BYTES = 63,      /* the longest message, a directory */
     PLAIN_SESSION_BYTES = 10,
@@ -34,8 +39,13 @@ enum {
     PLAIN_LISTING_BYTES = 19 + PLAIN_MAX_ROWS * 37 + 11 /* first line, rows and last line at their longest */
 };
 
+/* The versions of an image: few rows or many, both without the times of sides, and
+ * any rows with them. */
+enum { PLAIN_VERSION_FEW = 1, PLAIN_VERSION_MANY = 2, PLAIN_VERSION_TIMED = 3 };
+
 #define PLAIN_MAX_NUMBER UINT64_C(1000000000000)
 #define PLAIN_MAX_TIME UINT64_C(86399999999999)
+#define PLAIN_UNKNOWN_TIME UINT64_MAX /* of a side that was set before its time was kept */
 
 /* Where each field of a row begins. */
 enum {
@@ -43,7 +53,8 @@ enum {
     ROW_STRIKE = 15, ROW_TYPE = 19, ROW_UNDERLYING = 20, ROW_CLOSING = 33,
     ROW_TRADABLE = 34, ROW_VARIATION = 35, ROW_RESERVED = 36, ROW_STATE = 52,
     ROW_CONDITION = 53, ROW_SIDES = 54, ROW_GAP = 55, ROW_BID = 56,
-    ROW_ASK = 76, ROW_TRACKING = 96, ROW_TIME = 98, ROW_TAIL = 106
+    ROW_ASK = 76, ROW_TRACKING = 96, ROW_TIME = 98, ROW_BID_TIME = 106,
+    ROW_ASK_TIME = 114, ROW_TAIL = 122
 };
 
 /* The eight kinds of message record. */
@@ -186,10 +197,22 @@ struct plain_ran plain_run(struct plain_reader *r, uint8_t *table, size_t table_
 int plain_save(const struct plain_reader *r, const uint8_t *table,
                size_t table_len, uint8_t *out, size_t out_len, size_t *written);
 
-/* Makes handle, table and index from an image: 0, or 20 to 24 and a fresh
- * handle, with table and index left. */
+/* Makes handle, table and index from an image of any version: 0, or 20 to 24 and a
+ * fresh handle, with table and index left. The times of sides that an image without
+ * them has seen are unknown. */
 int plain_restore(struct plain_reader *r, uint8_t *table, size_t table_len,
                   uint8_t *index, size_t index_len, const uint8_t *image, size_t n);
+
+#if PLAIN_NEWEST_VERSION >= 3
+/* Writes an image without the times of sides as one with them, all unknown, or one
+ * with them as one without: 0, 21 to 24 as on restoring, with 23 for a version that the
+ * move does not start from, or 25. `written` is 0 on a refusal, and else the image's
+ * length. */
+int plain_forward(const uint8_t *image, size_t n, uint8_t *out, size_t out_len,
+                  size_t *written);
+int plain_back(const uint8_t *image, size_t n, uint8_t *out, size_t out_len,
+               size_t *written);
+#endif
 
 /* Reads one message: 0, 10, 11 or 12. A refusal leaves the record alone. */
 int plain_read(const uint8_t *bytes, size_t n, struct plain_message *m);

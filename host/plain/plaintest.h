@@ -66,6 +66,21 @@ void fill_up(struct bench *b);
 /* Makes every block's check right. */
 void seal(uint8_t *image, size_t n);
 
+/* The version without the times of sides that so many rows have, and their blocks. */
+uint32_t old_version(uint32_t rows);
+size_t blocks_of(uint32_t rows);
+
+/* The reader's image by the words of the documents, with any count of blocks, of rows
+ * that are named and any version; blocks past the rows are empty, and only version 3 has
+ * the times of sides. Its length. */
+size_t lay_image(const struct bench *b, size_t blocks, uint32_t named, uint32_t version, uint8_t *image);
+
+/* Sets both times of a row in the table where their sides were seen. */
+void set_times(struct bench *b, size_t row, uint64_t bid, uint64_t ask);
+
+/* The same reader, but for the times of all its seen sides, which are unknown. */
+struct bench with_unknown(const struct bench *b);
+
 /* Restoring is refused with this number: a fresh handle, table and index untouched.
  * With a table or an index of another length it is refused with 20. */
 void refused_in(const char *file, int line, const uint8_t *image, size_t n, int number);
@@ -114,10 +129,20 @@ void refused_in(const char *file, int line, const uint8_t *image, size_t n, int 
 #define ROW_SHORT_ASK \
     "\x00\x00\x00\x03" "\x00\x63\xFF\x9C" "\x00\x00\xFF\xFE" "\x00\x00\x01\x00" "\x00\x00\x00\x02"
 #define NO_SIDE "\0\0\0\0\0\0\0\0\0\0\0\0\0\0\0\0\0\0\0\0"
-#define ROW_END "\0\0\0\0\0\0\0\0\0\0\0\0\0\0\0\0\0\0"
+#define NO_TIME "\0\0\0\0\0\0\0\0"
+
+/* The sides seen, 0 to 3, as a row keeps them, and when they were set. */
+#define SIDES_0 "\0"
+#define SIDES_1 "\1"
+#define SIDES_2 "\2"
+#define SIDES_3 "\3"
+#define TIMES_0 NO_TIME NO_TIME
+#define TIMES_1 TIME NO_TIME
+#define TIMES_2 NO_TIME TIME
+#define TIMES_3 TIME TIME
 #define ROW(id, tradable, state, condition, sides, bid, ask, tracking) \
-    id FIXED UNDERLYING "N" tradable "P" SPACES16 state condition sides "\0" \
-    bid ask "\x00" tracking TIME ROW_END
+    id FIXED UNDERLYING "N" tradable "P" SPACES16 state condition SIDES_##sides "\0" \
+    bid ask "\x00" tracking TIME TIMES_##sides "\0\0"
 
 /* One session with every sort of packet, and its packets' places. */
 static const uint8_t day[] = HEARTBEAT LOGIN EVENT("O") DIRECTORY(ID7, "Y")
@@ -136,6 +161,8 @@ void test_runs(void);
 void test_messages(void);
 void test_images(void);
 void test_versions(void);
+void test_times(void);
+void test_moves(void);
 void test_samples(size_t n, char *const *paths); /* images in files */
 void test_generators(void);
 

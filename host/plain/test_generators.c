@@ -1,4 +1,5 @@
 /* The generators, run through the plain reader: what they make is what they say. */
+#include "parts.h"
 #include "plaintest.h"
 
 static bool takes_quote(unsigned state)
@@ -235,33 +236,120 @@ static void made_quotes(void)
     EXPECT(seen[0] > 400 && seen[1] > 400, "made quotes are taken and refused");
 }
 
+/* The packets of a row at all times are taken, and where its times were broken before
+ * them, saving is refused. */
+static void made_timed(void)
+{
+    static uint8_t image[PLAIN_IMAGE_BYTES];
+    unsigned long purged = 0;
+    for (uint64_t seed = 0; seed < 2000; seed++) {
+        struct dice d = dice_seeded(seed);
+        struct bench b;
+        uint8_t space[4 * PLAIN_PACKET_BYTES];
+        struct bytes s = {space, 0, sizeof space};
+        size_t n;
+        make_timed(&d, seed % 2 == 0, &b.r, b.table, &s);
+        sort_index(&b);
+        EQUAL(plain_save(&b.r, b.table, sizeof b.table, image, sizeof image, &n), seed % 2 == 0 ? 24 : 0, "its times");
+        feed(&b, s.at, s.n);
+        purged += s.n >= 66 && s.at[s.n - 66 + 3] == 'm';
+    }
+    EXPECT(purged > 500, "rows are purged");
+}
+
+/* A restored image is saved to the same bytes, or if it had no times, to an image that
+ * has them once those are taken away. */
+static void expect_saved_again(const struct bench *b, const struct bytes *image)
+{
+    static uint8_t space[PLAIN_IMAGE_BYTES];
+    struct bytes again = {space, 0, sizeof space};
+    EQUAL(plain_save(&b->r, b->table, sizeof b->table, again.at, again.room, &again.n), 0, "saved again");
+    if (get_number(image->at + 4, 2) != 3)
+        age_image(&again);
+    EXPECT(again.n == image->n && memcmp(again.at, image->at, again.n) == 0, "as the same image");
+}
+
+/* A move refuses what a restore does, and at 23 also a version of the other sort. */
+static void expect_moved(const struct bytes *image, int restored)
+{
+    static uint8_t out[PLAIN_IMAGE_BYTES], again[PLAIN_IMAGE_BYTES];
+    bool judged = restored == 0 || restored == 24, timed = judged && get_number(image->at + 4, 2) == 3;
+    int forward = judged && timed ? 23 : restored, back = judged && !timed ? 23 : restored;
+    size_t n, again_n;
+    EQUAL(plain_back(image->at, image->n, out, sizeof out, &n), back, "back");
+    EQUAL(n, back == 0 ? image->n : 0, "bytes written");
+    EQUAL(plain_forward(image->at, image->n, out, sizeof out, &n), forward, "forward");
+    EQUAL(n, forward == 0 ? image->n : 0, "bytes written");
+    if (forward != 0)
+        return;
+    EQUAL(plain_back(out, n, again, sizeof again, &again_n), 0, "forward then back");
+    EXPECT(again_n == n && memcmp(again, image->at, n) == 0, "the same bytes");
+}
+
 static void made_images(void)
 {
-    static uint8_t space[PLAIN_IMAGE_BYTES + PLAIN_BLOCK_BYTES], again[PLAIN_IMAGE_BYTES];
-    unsigned long seen[32] = {0}, made[PLAIN_MAX_ROWS + 1] = {0};
+    static uint8_t space[PLAIN_IMAGE_BYTES + PLAIN_BLOCK_BYTES];
+    unsigned long seen[32] = {0}, made[PLAIN_MAX_ROWS + 1] = {0}, versions[4] = {0};
     for (uint64_t seed = 0; seed < 150 * IMAGE_DAMAGES; seed++) {
         struct dice d = dice_seeded(seed);
         struct bytes image = {space, 0, sizeof space};
         struct bench b;
-        size_t n;
         int refusal;
         make_image(&d, &image);
         EQUAL(plain_restore(&b.r, b.table, sizeof b.table, b.index, sizeof b.index, image.at, image.n), 0, "a made image");
         expect_true_index(&b);
+        expect_moved(&image, 0);
         made[b.r.rows]++;
+        versions[get_number(image.at + 4, 2)]++;
         damage_image(&d, (enum image_damage)(seed % IMAGE_DAMAGES), &image);
         refusal = plain_restore(&b.r, b.table, sizeof b.table, b.index, sizeof b.index, image.at, image.n);
         seen[refusal]++;
-        if (refusal != 0)
-            continue;
-        EQUAL(plain_save(&b.r, b.table, sizeof b.table, again, sizeof again, &n), 0, "saved again");
-        EXPECT(n == image.n && memcmp(again, image.at, n) == 0, "as the same image");
+        if (refusal == 0)
+            expect_saved_again(&b, &image);
+        expect_moved(&image, refusal);
     }
     for (size_t k = 21; k <= 24; k++)
         EXPECT(seen[k] > 100, "the damages reach every refusal of an image");
     EXPECT(made[0] > 20 && made[PLAIN_ROWS_OF_VERSION_1] > 20 && made[PLAIN_ROWS_OF_VERSION_1 + 1] > 20 &&
                made[PLAIN_MAX_ROWS - 1] > 20 && made[PLAIN_MAX_ROWS] > 20,
            "the rows that made images have");
+    EXPECT(versions[1] > 100 && versions[2] > 100 && versions[3] > 100, "the versions that made images have");
+}
+
+/* The sort of a seen side's time: zero, the latest, unknown, or another. */
+static size_t sort_of(uint64_t time)
+{
+    return time == 0 ? 0 : time == PLAIN_MAX_TIME ? 1 : time == UINT64_MAX ? 2 : 3;
+}
+
+/* Rows have times of every sort on every side, and a broken time is 24 on saving, and
+ * in an image without times on restoring. */
+static void made_times(void)
+{
+    unsigned long made[2][4] = {{0}};
+    for (uint64_t seed = 0; seed < 4000; seed++) {
+        struct dice d = dice_seeded(seed);
+        uint8_t space[1024];
+        struct bytes image = {space, 0, sizeof space};
+        struct bench b;
+        start(&b);
+        feed(&b, LITERAL(LOGIN DIRECTORY(ID7, "Y")));
+        make_row(&d, 7, b.table);
+        for (size_t side = 0; side < 2; side++)
+            if (b.table[ROW_SIDES] >> side & 1)
+                made[side][sort_of(get_number(b.table + 106 + 8 * side, 8))]++;
+        EQUAL(plain_save(&b.r, b.table, sizeof b.table, space, sizeof space, &image.n), 0, "a made row");
+        age_image(&image);
+        EQUAL(plain_restore(&b.r, b.table, sizeof b.table, b.index, sizeof b.index, image.at, image.n), 0, "aged");
+        break_times(&d, true, b.table);
+        EQUAL(plain_save(&b.r, b.table, sizeof b.table, space, 0, &image.n), 24, "a broken time");
+        image.n = sizeof space;
+        break_times(&d, false, space + 512 + 14);
+        seal_image(&image);
+        restore_refused(__LINE__, image.at, image.n, 24);
+    }
+    for (size_t sort = 0; sort < 4; sort++)
+        EXPECT(made[PLAIN_BID][sort] > 100 && made[PLAIN_ASK][sort] > 100, "the times that made rows have");
 }
 
 void test_generators(void)
@@ -273,5 +361,7 @@ void test_generators(void)
     made_messages();
     made_readers();
     made_quotes();
+    made_timed();
     made_images();
+    made_times();
 }

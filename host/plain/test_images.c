@@ -1,4 +1,5 @@
 /* Tests of saving and restoring. */
+#include "parts.h"
 #include "plaintest.h"
 
 /* Saves, restores into other memory and logs in again. */
@@ -20,23 +21,36 @@ static void reopen(const struct bench *from, struct bench *to)
     feed(to, login, 33);
 }
 
+/* The day with another time in each of its messages. */
+static void set_clock(uint8_t *session)
+{
+    uint64_t time = 1;
+    memcpy(session, day, DAY_BYTES);
+    for (size_t at = 0; at < DAY_BYTES; at += 2u + session[at] * 256u + session[at + 1], time += 1000000007)
+        if (session[at + 2] == 'S' && session[at + 3] != 'M')
+            set_number(session + at + 6, 8, time);
+}
+
 /* From every place of the day: save there, resume, and end the same. */
 static void resume_everywhere(void)
 {
+    uint8_t session[DAY_BYTES];
     struct bench whole, part, again;
     size_t login_end = 3 + 33;
+    set_clock(session);
     start(&whole);
-    feed(&whole, day, DAY_BYTES);
+    feed(&whole, session, DAY_BYTES);
+    EXPECT(memcmp(whole.table + 106, whole.table + 114, 8) != 0, "a side's own time");
     start(&part);
     for (size_t at = 0; at < DAY_BYTES;) {
-        size_t n = 2u + day[at] * 256u + day[at + 1];
-        feed(&part, day + at, n);
+        size_t n = 2u + session[at] * 256u + session[at + 1];
+        feed(&part, session + at, n);
         at += n;
         reopen(&part, &again);
         if (at < login_end)
-            feed(&again, day + login_end, DAY_BYTES - login_end);
+            feed(&again, session + login_end, DAY_BYTES - login_end);
         else if (at < DAY_BYTES)
-            feed(&again, day + at, DAY_BYTES - at);
+            feed(&again, session + at, DAY_BYTES - at);
         else
             again.r.ended = true;
         EXPECT(same_bench(&whole, &again), "handle, table and index after resuming");
@@ -54,8 +68,8 @@ static void no_prices_restored(void)
                      "\x00\x1B" "Sa" "\x00\x06" TIME ID_MAX " " SHORT_NONE));
     expect_listing(&b, "next 7\n7 T none none\n4294967295 T - none\nok\n");
     reopen(&b, &again);
-    expect_row(&again, 0, LITERAL(ROW(ID7, "Y", "T", " ", "\3", LONG_NONE, LONG_NONE, "\4")));
-    expect_row(&again, 1, LITERAL(ROW(ID_MAX, "Y", "T", " ", "\2", NO_SIDE, LONG_NONE, "\6")));
+    expect_row(&again, 0, LITERAL(ROW(ID7, "Y", "T", " ", 3, LONG_NONE, LONG_NONE, "\4")));
+    expect_row(&again, 1, LITERAL(ROW(ID_MAX, "Y", "T", " ", 2, NO_SIDE, LONG_NONE, "\6")));
     expect_listing(&again, "next 7\n7 T none none\n4294967295 T - none\nok\n");
     feed(&again, LITERAL(BID_SHORT(ID7) ASK_LONG(ID_MAX)));
     expect_listing(&again, "next 9\n7 T 1.2500 none\n4294967295 T - 1.2501\nok\n");
@@ -91,16 +105,16 @@ static void images(void)
     memset(image, 0x5A, sizeof image);
     EQUAL(plain_save(&b.r, b.table, sizeof b.table, image, 512, &n), 0, "C12 save");
     memset(wanted, 0, sizeof wanted);
-    memcpy(wanted, "\0\0" "\0\1" "\0\1" "\0\0\0\0\0\0\0\1" "          ", 24);
-    memcpy(wanted + 510, "\x18\x78", 2);
+    memcpy(wanted, "\0\0" "\0\1" "\0\3" "\0\0\0\0\0\0\0\1" "          ", 24);
+    memcpy(wanted + 510, "\x18\x84", 2);
     EXPECT(n == 512 && memcmp(image, wanted, 512) == 0 && image[512] == 0x5A, "C12");
     feed(&b, LITERAL(LOGIN EVENT("W") DIRECTORY(ID7, "Y") STATE(ID7, "T") BID_SHORT(ID7) REPLAY_END));
     EQUAL(plain_save(&b.r, b.table, sizeof b.table, image, 1024, &n), 0, "save a row");
     memset(wanted, 0, sizeof wanted);
-    memcpy(wanted, "\0\0" "\0\2" "\0\1" "\0\0\0\0\0\0\0\6" SESSION "\1" "W" "\0\1"
+    memcpy(wanted, "\0\0" "\0\2" "\0\3" "\0\0\0\0\0\0\0\6" SESSION "\1" "W" "\0\1"
                    "\0\0\0\0\0\1\xE2\x40", 36);
-    memcpy(wanted + 512, "\0\1" "\0\2" "\0\1" "\0\0\0\0\0\0\0\6", 14);
-    memcpy(wanted + 526, ROW(ID7, "Y", "T", " ", "\1", ROW_SHORT_BID, NO_SIDE, "\5"), 124);
+    memcpy(wanted + 512, "\0\1" "\0\2" "\0\3" "\0\0\0\0\0\0\0\6", 14);
+    memcpy(wanted + 526, ROW(ID7, "Y", "T", " ", 1, ROW_SHORT_BID, NO_SIDE, "\5"), 124);
     for (size_t k = 0; k < 2; k++) {
         unsigned long sum = 0;
         for (unsigned long i = 0; i < 510; i++)
@@ -140,7 +154,9 @@ static const struct {
     {53, 0, "condition 0"}, {53, 'X', "condition, nothing seen"}, {54, 4, "sides 4"},
     {54, 255, "sides 255"}, {55, 1, "gap"}, {56, 1, "unseen bid"}, {60, 1, "unseen bid's price"},
     {75, 1, "unseen bid's end"}, {76, 1, "unseen ask"}, {95, 1, "unseen ask's end"},
-    {98, 1, "time"}, {106, 1, "tail"}, {123, 0x80, "tail's end"},
+    {98, 1, "time"}, {106, 1, "unseen bid's time"}, {113, 1, "unseen bid's time 1"},
+    {114, 1, "unseen ask's time"}, {121, 1, "unseen ask's time 1"}, {122, 1, "tail"},
+    {123, 0x80, "tail's end"},
 };
 
 static void saves_refused(void)
@@ -239,7 +255,7 @@ static void contents_refused(void)
     changed(__LINE__, image, n, 27, 4, 24);
     changed(__LINE__, image, n, 27, 6, 24); /* the sixth slot is all zeros */
     changed(__LINE__, image, n, 27, 9, 24);
-    changed(__LINE__, image, n, 26, 1, 23); /* 261 rows: another version */
+    changed(__LINE__, image, n, 26, 1, 24);
     changed(__LINE__, image, n, 28, 1, 24);
     changed(__LINE__, image, n, 36, 1, 24);
     changed(__LINE__, image, n, 509, 1, 24);

@@ -1,7 +1,8 @@
-/* A reader from before document 02 raised the most rows, over images of today: the
- * plain reader, built with the sizes of that time.
+/* Readers from before document 02 raised the most rows, or gave each side a time, over
+ * images of today: the plain reader, built with the sizes and versions of that time.
  *
- *   oldtest FILE...    images with 256 rows, and then with more */
+ *   oldtest [NEW OLD SESSION]...    an image of version 3, what it is moved back, and
+ *                                   the session that it was saved from, or - for none */
 #include "file.h"
 #include "plain.h"
 
@@ -9,16 +10,21 @@
 #include <stdlib.h>
 #include <string.h>
 
-_Static_assert(PLAIN_MAX_ROWS == 256 && PLAIN_TABLE_BYTES == 31744 && PLAIN_INDEX_BYTES == 512 &&
-                   PLAIN_MAX_BLOCKS == 65,
-               "the sizes from before");
+_Static_assert(PLAIN_NEWEST_VERSION == 2
+                   ? PLAIN_MAX_ROWS == 500 && PLAIN_MAX_BLOCKS == 126
+                   : PLAIN_NEWEST_VERSION == 1 && PLAIN_MAX_ROWS == 256 && PLAIN_TABLE_BYTES == 31744 &&
+                         PLAIN_INDEX_BYTES == 512 && PLAIN_MAX_BLOCKS == 65,
+               "the sizes and versions from before");
 
 enum { AT_VERSION = 4, AT_ROWS = 26, AT_CHECK = 510 };
 
 /* Longer than any image that this reader may take. */
-static uint8_t image[4 * PLAIN_IMAGE_BYTES];
+static uint8_t image[4 * PLAIN_IMAGE_BYTES], again[PLAIN_IMAGE_BYTES], session[1 << 20];
 static struct plain_reader reader;
 static uint8_t table[PLAIN_TABLE_BYTES], places[PLAIN_INDEX_BYTES];
+
+/* How many images were refused, by number, and restored, and sessions read. */
+static unsigned long too_long, unknown, restored, sessions;
 
 static void expect(bool good, const char *path, const char *what)
 {
@@ -39,6 +45,14 @@ static bool is_filled(const uint8_t *bytes, size_t n, uint8_t value)
         if (bytes[i] != value)
             return false;
     return true;
+}
+
+static size_t load(const char *path, uint8_t *bytes, size_t room)
+{
+    long n = read_file("oldtest", path, bytes, room);
+    if (n < 0)
+        exit(2);
+    return (size_t)n;
 }
 
 /* Restores over memory that is full of one byte; a refusal leaves it so, and the
@@ -67,56 +81,96 @@ static void seal(uint8_t *block)
     block[AT_CHECK + 1] = (uint8_t)(sum % 65521 % 256);
 }
 
-/* Version 2 says nothing to this reader, however few rows are named. */
-static void version_2(const char *path, size_t n)
+/* A version above the newest says nothing to this reader, however few rows are named. */
+static void next_version(const char *path, size_t n)
 {
     for (size_t at = 0; at < n; at += PLAIN_BLOCK_BYTES) {
-        image[at + AT_VERSION + 1] = 2;
+        image[at + AT_VERSION + 1] = PLAIN_NEWEST_VERSION + 1;
         seal(image + at);
     }
-    expect(restore(path, n) == 23, path, "version 2 in 65 blocks");
-    image[AT_ROWS + 1]++;
+    expect(restore(path, n) == 23, path, "23 for the next version");
+    image[AT_ROWS]++;
     seal(image);
-    expect(restore(path, n) == 23, path, "version 2 in 65 blocks, with 257 rows named");
+    expect(restore(path, n) == 23, path, "23 for the next version, with 256 rows more named");
 }
 
-/* As many rows as the reader has room for: taken, and saved to the same bytes. */
-static void taken(const char *path, size_t n)
+/* An image of version 3: 23, or with more rows than the reader has room for 21, and
+ * then 23 for as many of its blocks as may be. */
+static void refused(const char *path)
 {
-    static uint8_t again[PLAIN_IMAGE_BYTES];
-    size_t written;
-    expect(restore(path, n) == 0 && reader.rows == PLAIN_MAX_ROWS, path, "256 rows are restored");
-    expect(plain_save(&reader, table, sizeof table, again, sizeof again, &written) == 0, path, "they are saved");
-    expect(written == n && memcmp(image, again, n) == 0, path, "to the same bytes");
-    expect(number_at(image + AT_VERSION) == 1, path, "with version 1");
-    printf("oldtest: %s: 256 rows, version 1: restored, and saved to the same bytes\n", path);
-    version_2(path, n);
+    size_t n = load(path, image, sizeof image);
+    unsigned rows = number_at(image + AT_ROWS);
+    expect(number_at(image + AT_VERSION) == 3, path, "version 3");
+    if (rows <= PLAIN_MAX_ROWS) {
+        expect(restore(path, n) == 23, path, "23 for version 3");
+        unknown++;
+        return;
+    }
+    expect(restore(path, n) == 21, path, "21 for more blocks than there may be");
+    expect(restore(path, PLAIN_IMAGE_BYTES) == 23, path, "23 for its first blocks");
+    too_long++;
 }
 
-/* More rows: 21, and where the rest is cut off, 23 for the heads of what is left. */
-static void refused(const char *path, size_t n)
+static void expect_saved(const char *path, const uint8_t *wanted, size_t wanted_n)
 {
-    unsigned rows = number_at(image + AT_ROWS), version = number_at(image + AT_VERSION);
-    expect(rows > PLAIN_MAX_ROWS && version == 2, path, "more than 256 rows, version 2");
-    expect(restore(path, n) == 21, path, "21 for more than 65 blocks");
-    expect(restore(path, PLAIN_IMAGE_BYTES) == 23, path, "23 for its first 65 blocks");
-    printf("oldtest: %s: %u rows, version 2: refused with 21, and nothing changed\n", path, rows);
+    size_t n;
+    expect(plain_save(&reader, table, sizeof table, again, sizeof again, &n) == 0, path, "saved");
+    expect(n == wanted_n && memcmp(again, wanted, n) == 0, path, "to the same bytes");
+}
+
+/* An image that was moved back: taken, with no times, and saved to the same bytes;
+ * where it has too many rows, refused as before. */
+static bool taken(const char *path, size_t n)
+{
+    unsigned rows = number_at(image + AT_ROWS);
+    expect(number_at(image + AT_VERSION) == (rows <= PLAIN_ROWS_OF_VERSION_1 ? 1 : 2), path, "version 1 or 2");
+    if (rows > PLAIN_MAX_ROWS) {
+        expect(restore(path, n) == 21, path, "21 for more blocks than there may be");
+        expect(restore(path, PLAIN_IMAGE_BYTES) == 23, path, "23 for its first blocks");
+        too_long++;
+        return false;
+    }
+    expect(restore(path, n) == 0 && reader.rows == rows, path, "its rows are restored");
+    for (unsigned k = 0; k < rows; k++)
+        expect(is_filled(table + k * PLAIN_ROW_BYTES + ROW_BID_TIME, PLAIN_ROW_BYTES - ROW_BID_TIME, 0), path,
+               "no times");
+    expect_saved(path, image, n);
+    restored++;
+    return true;
+}
+
+/* Reads the session by itself, and saves the same image. */
+static void read_session(const char *path, const uint8_t *wanted, size_t wanted_n)
+{
+    size_t n = load(path, session, sizeof session), at = 0;
+    struct plain_answer answer;
+    plain_start(&reader, table, sizeof table, places, sizeof places);
+    do {
+        plain_step(&reader, table, sizeof table, places, sizeof places, session + at, n - at, &answer);
+        at += answer.taken;
+    } while (answer.kind == PLAIN_EVENT);
+    expect_saved(path, wanted, wanted_n);
+    sessions++;
 }
 
 int main(int argc, char **argv)
 {
-    if (argc < 3) {
-        fprintf(stderr, "usage: oldtest FILE...\n");
+    if (argc < 4 || argc % 3 != 1) {
+        fprintf(stderr, "usage: oldtest [NEW OLD SESSION]...\n");
         return 2;
     }
-    for (int i = 1; i < argc; i++) {
-        long n = read_file("oldtest", argv[i], image, sizeof image);
-        if (n < 0)
-            return 2;
-        if (i == 1)
-            taken(argv[i], (size_t)n);
-        else
-            refused(argv[i], (size_t)n);
+    for (int i = 1; i < argc; i += 3) {
+        size_t n;
+        refused(argv[i]);
+        n = load(argv[i + 1], image, sizeof image);
+        if (!taken(argv[i + 1], n))
+            continue;
+        if (strcmp(argv[i + 2], "-") != 0)
+            read_session(argv[i + 2], image, n);
+        next_version(argv[i + 1], n);
     }
+    printf("oldtest: a reader of up to version %d: images refused with 21: %lu, with 23: %lu; moved back and restored: "
+           "%lu; saved by itself to the same bytes: %lu\n",
+           PLAIN_NEWEST_VERSION, too_long, unknown, restored, sessions);
     return 0;
 }

@@ -50,7 +50,7 @@ static void small_fields(void)
     EQUAL(m.time, 86399999999999u, "C9 below");
     start(&b);
     feed(&b, LITERAL(LOGIN DIRECTORY(ID7, "Y") STATE(ID7, "T") BOTH_SHORT(ID7)));
-    expect_row(&b, 0, LITERAL(ROW(ID7, "Y", "T", " ", "\3", ROW_SHORT_BID,
+    expect_row(&b, 0, LITERAL(ROW(ID7, "Y", "T", " ", 3, ROW_SHORT_BID,
                                   ROW_SHORT_ASK, "\3")));
     EQUAL(plain_read(LITERAL("B\0\7" TIME ID7 "X" LONG_BID), &m), 0, "C11 in range");
     EQUAL(m.one_long.side.price, 0x7FFFFFFF, "C11 price");
@@ -162,17 +162,17 @@ static void prices_come_and_go(void)
     feed(&b, LITERAL(LOGIN DIRECTORY(ID7, "Y") STATE(ID7, "T") BOTH_SHORT(ID7)));
     expect_listing(&b, "next 4\n7 T 1.2500 655.3500\nok\n");
     feed(&b, LITERAL("\x00\x1B" "Sb" "\x00\x05" TIME ID7 " " SHORT_NONE));
-    expect_row(&b, 0, LITERAL(ROW(ID7, "Y", "T", " ", "\3", LONG_NONE, ROW_SHORT_ASK, "\5")));
+    expect_row(&b, 0, LITERAL(ROW(ID7, "Y", "T", " ", 3, LONG_NONE, ROW_SHORT_ASK, "\5")));
     expect_listing(&b, "next 5\n7 T none 655.3500\nok\n");
     feed(&b, LITERAL("\x00\x25" "SA" "\x00\x08" TIME ID7 "X" LONG_NONE));
-    expect_row(&b, 0, LITERAL(ROW(ID7, "Y", "T", "X", "\3", LONG_NONE, LONG_NONE, "\x08")));
+    expect_row(&b, 0, LITERAL(ROW(ID7, "Y", "T", "X", 3, LONG_NONE, LONG_NONE, "\x08")));
     expect_listing(&b, "next 6\n7 T none none\nok\n");
     feed(&b, LITERAL(BID_LONG(ID7)));
     expect_listing(&b, "next 7\n7 T 214748.3647 none\nok\n");
     feed(&b, LITERAL(ASK_SHORT(ID7) STATE(ID7, "H")));
     expect_listing(&b, "next 9\n7 H 214748.3647 655.3500\nok\n");
     feed(&b, LITERAL(STATE(ID7, "T") "\x00\x25" "Sq" "\x00\x03" TIME ID7 " " SHORT_NONE SHORT_NONE));
-    expect_row(&b, 0, LITERAL(ROW(ID7, "Y", "T", " ", "\3", LONG_NONE, LONG_NONE, "\3")));
+    expect_row(&b, 0, LITERAL(ROW(ID7, "Y", "T", " ", 3, LONG_NONE, LONG_NONE, "\3")));
     expect_listing(&b, "next 11\n7 T none none\nok\n");
     feed(&b, LITERAL(DIRECTORY(ID7, "N")));
     expect_listing(&b, "next 12\n7 T - -\nok\n");
@@ -202,7 +202,7 @@ static void sides_unseen(void)
 
 static void longest_listing(void)
 {
-    static const uint8_t largest[] = ROW(ID_MAX, "Y", "T", "X", "\3",
+    static const uint8_t largest[] = ROW(ID_MAX, "Y", "T", "X", 3,
                                          LONG_BID, LONG_BID, "\4");
     struct bench b;
     char text[PLAIN_LISTING_BYTES];
@@ -256,28 +256,28 @@ static void rows_change(void)
     feed(&b, LITERAL(LOGIN));
     memset(b.table, 0xEE, sizeof b.table); /* an appended row is written whole */
     feed(&b, LITERAL(DIRECTORY(ID7, "Y") DIRECTORY(ID_MAX, "Y")));
-    expect_row(&b, 0, LITERAL(ROW(ID7, "Y", "\0", " ", "\0", NO_SIDE, NO_SIDE, "\1")));
-    expect_row(&b, 1, LITERAL(ROW(ID_MAX, "Y", "\0", " ", "\0", NO_SIDE, NO_SIDE, "\1")));
+    expect_row(&b, 0, LITERAL(ROW(ID7, "Y", "\0", " ", 0, NO_SIDE, NO_SIDE, "\1")));
+    expect_row(&b, 1, LITERAL(ROW(ID_MAX, "Y", "\0", " ", 0, NO_SIDE, NO_SIDE, "\1")));
     EQUAL(b.table[2 * PLAIN_ROW_BYTES], 0xEE, "no byte past the rows");
     feed(&b, LITERAL(STATE(ID_MAX, "T")));
-    expect_row(&b, 1, LITERAL(ROW(ID_MAX, "Y", "T", " ", "\0", NO_SIDE, NO_SIDE, "\2")));
+    expect_row(&b, 1, LITERAL(ROW(ID_MAX, "Y", "T", " ", 0, NO_SIDE, NO_SIDE, "\2")));
     feed(&b, LITERAL(ASK_SHORT(ID_MAX)));
-    expect_row(&b, 1, LITERAL(ROW(ID_MAX, "Y", "T", "Y", "\2", NO_SIDE, ROW_SHORT_ASK, "\6")));
+    expect_row(&b, 1, LITERAL(ROW(ID_MAX, "Y", "T", "Y", 2, NO_SIDE, ROW_SHORT_ASK, "\6")));
     feed(&b, LITERAL(BID_LONG(ID_MAX)));
-    expect_row(&b, 1, LITERAL(ROW(ID_MAX, "Y", "T", "X", "\3", LONG_BID, ROW_SHORT_ASK, "\7")));
+    expect_row(&b, 1, LITERAL(ROW(ID_MAX, "Y", "T", "X", 3, LONG_BID, ROW_SHORT_ASK, "\7")));
     feed(&b, LITERAL(ASK_LONG(ID_MAX)));
-    expect_row(&b, 1, LITERAL(ROW(ID_MAX, "Y", "T", " ", "\3", LONG_BID, LONG_ASK, "\x8")));
+    expect_row(&b, 1, LITERAL(ROW(ID_MAX, "Y", "T", " ", 3, LONG_BID, LONG_ASK, "\x8")));
     feed(&b, LITERAL(BID_SHORT(ID_MAX)));
-    expect_row(&b, 1, LITERAL(ROW(ID_MAX, "Y", "T", " ", "\3", ROW_SHORT_BID, LONG_ASK, "\5")));
+    expect_row(&b, 1, LITERAL(ROW(ID_MAX, "Y", "T", " ", 3, ROW_SHORT_BID, LONG_ASK, "\5")));
     feed(&b, LITERAL(BOTH_LONG(ID_MAX)));
-    expect_row(&b, 1, LITERAL(ROW(ID_MAX, "Y", "T", "X", "\3", LONG_BID, LONG_ASK, "\4")));
+    expect_row(&b, 1, LITERAL(ROW(ID_MAX, "Y", "T", "X", 3, LONG_BID, LONG_ASK, "\4")));
     feed(&b, LITERAL(DIRECTORY(ID_MAX, "Y")));
-    expect_row(&b, 1, LITERAL(ROW(ID_MAX, "Y", "T", "X", "\3", LONG_BID, LONG_ASK, "\1")));
+    expect_row(&b, 1, LITERAL(ROW(ID_MAX, "Y", "T", "X", 3, LONG_BID, LONG_ASK, "\1")));
     feed(&b, LITERAL(STATE(ID_MAX, "H")));
-    expect_row(&b, 1, LITERAL(ROW(ID_MAX, "Y", "H", "X", "\3", LONG_BID, LONG_ASK, "\2")));
+    expect_row(&b, 1, LITERAL(ROW(ID_MAX, "Y", "H", "X", 3, LONG_BID, LONG_ASK, "\2")));
     feed(&b, LITERAL(DIRECTORY(ID_MAX, "N")));
-    expect_row(&b, 1, LITERAL(ROW(ID_MAX, "N", "H", " ", "\0", NO_SIDE, NO_SIDE, "\1")));
-    expect_row(&b, 0, LITERAL(ROW(ID7, "Y", "\0", " ", "\0", NO_SIDE, NO_SIDE, "\1")));
+    expect_row(&b, 1, LITERAL(ROW(ID_MAX, "N", "H", " ", 0, NO_SIDE, NO_SIDE, "\1")));
+    expect_row(&b, 0, LITERAL(ROW(ID7, "Y", "\0", " ", 0, NO_SIDE, NO_SIDE, "\1")));
     feed(&b, LITERAL(EVENT("Q") REPLAY_END));
     EXPECT(b.r.event == 'Q' && b.r.live == 123456 && b.r.next == 14 &&
                b.r.rows == 2, "event and live number");
@@ -317,10 +317,12 @@ static void strange_memory(void)
     feed(&b, LITERAL(ASK_LONG(ID7)));
     row[54] = 0xF2;
     memcpy(row + 76, LONG_ASK, 20);
+    memcpy(row + 114, TIME, 8);
     row[97] = 8;
     expect_row(&b, 0, row, sizeof row);
     feed(&b, LITERAL(DIRECTORY(ID7, "N")));
     memset(row + 54, 0, 42); /* purging clears the gap too, not the tail */
+    memset(row + 106, 0, 16);
     row[34] = 'N';
     row[97] = 1;
     expect_row(&b, 0, row, sizeof row);
@@ -385,12 +387,12 @@ static void rows_out_of_use(void)
         b.r.rows = rows;
         sort_index(&b);
         past = b.table + rows * PLAIN_ROW_BYTES;
-        memcpy(past, ROW(ID7, "Y", "T", "X", "\3", LONG_BID, LONG_ASK, "\4"), PLAIN_ROW_BYTES);
+        memcpy(past, ROW(ID7, "Y", "T", "X", 3, LONG_BID, LONG_ASK, "\4"), PLAIN_ROW_BYTES);
         EQUAL(step(&b, LITERAL(BID_LONG(ID7))).refusal, 13, "a row out of use");
         b.r.refusal = 0;
         feed(&b, LITERAL(DIRECTORY(ID7, "Y")));
         EQUAL(b.r.rows, rows + 1, "a row added");
-        expect_row(&b, rows, LITERAL(ROW(ID7, "Y", "\0", " ", "\0", NO_SIDE, NO_SIDE, "\1")));
+        expect_row(&b, rows, LITERAL(ROW(ID7, "Y", "\0", " ", 0, NO_SIDE, NO_SIDE, "\1")));
     }
 }
 
@@ -522,7 +524,7 @@ static void full_table(void)
 {
     enum { LAST = PLAIN_MAX_ROWS - 1 };
     uint8_t packets[] = STATE("\0\0\0\0", "T") BOTH_LONG("\0\0\0\0");
-    uint8_t row[] = ROW("\0\0\0\0", "Y", "T", "X", "\3", LONG_BID, LONG_ASK, "\4");
+    uint8_t row[] = ROW("\0\0\0\0", "Y", "T", "X", 3, LONG_BID, LONG_ASK, "\4");
     struct bench b;
     start(&b);
     feed(&b, LITERAL(LOGIN));
@@ -582,12 +584,12 @@ static void quote_in(char state, const struct quote *q)
 static void quotes_by_state(void)
 {
     static const struct quote quotes[] = {
-        {BOTH_SHORT(ID7), 39, ROW(ID7, "Y", "T", " ", "\3", ROW_SHORT_BID, ROW_SHORT_ASK, "\3")},
-        {BOTH_LONG(ID7), 59, ROW(ID7, "Y", "T", "X", "\3", LONG_BID, LONG_ASK, "\4")},
-        {BID_SHORT(ID7), 29, ROW(ID7, "Y", "T", " ", "\1", ROW_SHORT_BID, NO_SIDE, "\5")},
-        {ASK_SHORT(ID7), 29, ROW(ID7, "Y", "T", "Y", "\2", NO_SIDE, ROW_SHORT_ASK, "\6")},
-        {BID_LONG(ID7), 39, ROW(ID7, "Y", "T", "X", "\1", LONG_BID, NO_SIDE, "\7")},
-        {ASK_LONG(ID7), 39, ROW(ID7, "Y", "T", " ", "\2", NO_SIDE, LONG_ASK, "\x08")},
+        {BOTH_SHORT(ID7), 39, ROW(ID7, "Y", "T", " ", 3, ROW_SHORT_BID, ROW_SHORT_ASK, "\3")},
+        {BOTH_LONG(ID7), 59, ROW(ID7, "Y", "T", "X", 3, LONG_BID, LONG_ASK, "\4")},
+        {BID_SHORT(ID7), 29, ROW(ID7, "Y", "T", " ", 1, ROW_SHORT_BID, NO_SIDE, "\5")},
+        {ASK_SHORT(ID7), 29, ROW(ID7, "Y", "T", "Y", 2, NO_SIDE, ROW_SHORT_ASK, "\6")},
+        {BID_LONG(ID7), 39, ROW(ID7, "Y", "T", "X", 1, LONG_BID, NO_SIDE, "\7")},
+        {ASK_LONG(ID7), 39, ROW(ID7, "Y", "T", " ", 2, NO_SIDE, LONG_ASK, "\x08")},
     };
     static const char none_and_all[] = {0, 'B', 'S', 'H', 'T', 'I', 'O', 'R', 'X'};
     for (size_t k = 0; k < sizeof quotes / sizeof *quotes; k++)
@@ -602,20 +604,20 @@ static void states_in_turn(void)
     struct bench b;
     start_in(&b, 'T', 'Y');
     feed(&b, LITERAL(BOTH_SHORT(ID7) STATE(ID7, "B") BID_LONG(ID7)));
-    expect_row(&b, 0, LITERAL(ROW(ID7, "Y", "B", "X", "\3", LONG_BID, ROW_SHORT_ASK, "\7")));
+    expect_row(&b, 0, LITERAL(ROW(ID7, "Y", "B", "X", 3, LONG_BID, ROW_SHORT_ASK, "\7")));
     feed(&b, LITERAL(STATE(ID7, "S") BID_SHORT(ID7)));
-    expect_row(&b, 0, LITERAL(ROW(ID7, "Y", "S", " ", "\3", ROW_SHORT_BID, ROW_SHORT_ASK, "\5")));
+    expect_row(&b, 0, LITERAL(ROW(ID7, "Y", "S", " ", 3, ROW_SHORT_BID, ROW_SHORT_ASK, "\5")));
     feed(&b, LITERAL(ASK_LONG(ID7)));
-    expect_row(&b, 0, LITERAL(ROW(ID7, "Y", "S", " ", "\3", ROW_SHORT_BID, LONG_ASK, "\x08")));
+    expect_row(&b, 0, LITERAL(ROW(ID7, "Y", "S", " ", 3, ROW_SHORT_BID, LONG_ASK, "\x08")));
     feed(&b, LITERAL(STATE(ID7, "T") STATE(ID7, "H")));
     REFUSED(&b, ASK_SHORT(ID7), 14);
-    expect_row(&b, 0, LITERAL(ROW(ID7, "Y", "H", " ", "\3", ROW_SHORT_BID, LONG_ASK, "\2")));
+    expect_row(&b, 0, LITERAL(ROW(ID7, "Y", "H", " ", 3, ROW_SHORT_BID, LONG_ASK, "\2")));
     feed(&b, LITERAL(STATE(ID7, "T") ASK_SHORT(ID7)));
-    expect_row(&b, 0, LITERAL(ROW(ID7, "Y", "T", "Y", "\3", ROW_SHORT_BID, ROW_SHORT_ASK, "\6")));
+    expect_row(&b, 0, LITERAL(ROW(ID7, "Y", "T", "Y", 3, ROW_SHORT_BID, ROW_SHORT_ASK, "\6")));
     feed(&b, LITERAL(STATE(ID7, "B") DIRECTORY(ID7, "N")));
     REFUSED(&b, BOTH_LONG(ID7), 14);
     feed(&b, LITERAL(DIRECTORY(ID7, "Y") BOTH_LONG(ID7)));
-    expect_row(&b, 0, LITERAL(ROW(ID7, "Y", "B", "X", "\3", LONG_BID, LONG_ASK, "\4")));
+    expect_row(&b, 0, LITERAL(ROW(ID7, "Y", "B", "X", 3, LONG_BID, LONG_ASK, "\4")));
     expect_listing(&b, "next 17\n7 B 214748.3647 1.2501\nok\n");
 }
 
@@ -774,10 +776,10 @@ static void cut_everywhere(void)
     EQUAL(collect(&a, day, DAY_BYTES, whole, 0), DAY_PACKETS, "the day's packets");
     EXPECT(a.r.ended && a.r.rows == 5 && a.r.next == 21 && a.r.event == 'Q' &&
                a.r.live == 123456, "the day's end");
-    expect_row(&a, 0, LITERAL(ROW(ID7, "Y", "H", "X", "\3", LONG_BID, ROW_SHORT_ASK, "\2")));
-    expect_row(&a, 1, LITERAL(ROW(ID_MAX, "N", "T", " ", "\0", NO_SIDE, NO_SIDE, "\1")));
-    expect_row(&a, 2, LITERAL(ROW("\0\0\0\x08", "Y", "T", " ", "\3", ROW_SHORT_BID, LONG_ASK, "\x08")));
-    expect_row(&a, 4, LITERAL(ROW("\0\0\0\x0A", "Y", "\0", " ", "\0", NO_SIDE, NO_SIDE, "\1")));
+    expect_row(&a, 0, LITERAL(ROW(ID7, "Y", "H", "X", 3, LONG_BID, ROW_SHORT_ASK, "\2")));
+    expect_row(&a, 1, LITERAL(ROW(ID_MAX, "N", "T", " ", 0, NO_SIDE, NO_SIDE, "\1")));
+    expect_row(&a, 2, LITERAL(ROW("\0\0\0\x08", "Y", "T", " ", 3, ROW_SHORT_BID, LONG_ASK, "\x08")));
+    expect_row(&a, 4, LITERAL(ROW("\0\0\0\x0A", "Y", "\0", " ", 0, NO_SIDE, NO_SIDE, "\1")));
     for (size_t at = 0; at <= DAY_BYTES; at++) {
         start(&b);
         count = collect(&b, day, at, cut, 0);

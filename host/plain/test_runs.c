@@ -24,7 +24,7 @@ static void more_wanted(void)
     EXPECT(b.r.used == 4 && memcmp(b.r.held, "\x00\x11" "SH", 4) == 0, "the cut packet is held");
     RAN(run_to(&b, LITERAL("\x00\x02" TIME ID7 "T" HEARTBEAT "\x00"), 5), PLAIN_RAN_OUT, 0, 2, 19);
     EXPECT(b.r.used == 1 && b.r.held[0] == 0 && b.r.next == 3, "a lone byte is held");
-    expect_row(&b, 0, LITERAL(ROW(ID7, "Y", "T", " ", "\0", NO_SIDE, NO_SIDE, "\2")));
+    expect_row(&b, 0, LITERAL(ROW(ID7, "Y", "T", " ", 0, NO_SIDE, NO_SIDE, "\2")));
 }
 
 /* At the ceiling nothing more is taken, and nothing of the rest is held. */
@@ -71,7 +71,7 @@ static void refused(void)
     RAN(run_to(&b, LITERAL(LOGIN DIRECTORY(ID7, "Y") BID_SHORT(ID7) HEARTBEAT), 2), PLAIN_RAN_CEILING, 0, 2, 99);
     RAN(run_to(&b, LITERAL(EVENT("Q") BID_SHORT(ID7) HEARTBEAT), 2), PLAIN_RAN_REFUSED, 14, 1, 44);
     EXPECT(b.r.refusal == 14 && b.r.used == 0 && b.r.next == 3 && b.r.event == 'Q', "the message before it");
-    expect_row(&b, 0, LITERAL(ROW(ID7, "Y", "\0", " ", "\0", NO_SIDE, NO_SIDE, "\1")));
+    expect_row(&b, 0, LITERAL(ROW(ID7, "Y", "\0", " ", 0, NO_SIDE, NO_SIDE, "\1")));
     RAN(run_to(&b, LITERAL(HEARTBEAT), 0), PLAIN_RAN_REFUSED, 14, 0, 0);
     RAN(run_to(&b, LITERAL(HEARTBEAT), 5), PLAIN_RAN_REFUSED, 14, 0, 0);
     b.r.ended = true;

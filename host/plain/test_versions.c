@@ -1,5 +1,5 @@
-/* Tests of the most rows that a table has, and of the version of an image, which
- * goes by its rows. */
+/* Tests of the most rows that a table has, and of the version of an image: 3, or by its
+ * rows one of 1 and 2. */
 #include "file.h"
 #include "parts.h"
 #include "plaintest.h"
@@ -23,54 +23,35 @@ static void sizes(void)
     EQUAL(PLAIN_ROWS_OF_VERSION_1, 256, "rows of version 1");
 }
 
-static uint32_t version_of(uint32_t rows)
-{
-    return rows <= LAST_OF_1 ? 1 : 2;
-}
-
-static size_t blocks_of(uint32_t rows)
-{
-    return 1 + (rows + 3) / 4;
-}
-
-/* A reader with so many rows; the first and the last have a state. */
+/* A reader with so many rows; the first and the last have a state and quotes, whose
+ * times are known. */
 static void begin_rows(struct bench *b, uint32_t rows)
 {
     start(b);
     feed(b, LITERAL(LOGIN EVENT("O") REPLAY_END));
     list_rows(b, rows);
     for (uint32_t k = 0; k < rows; k += rows > 1 ? rows - 1 : 1) {
-        uint8_t packet[] = STATE("\0\0\0\0", "T");
-        set_number(packet + 14, 4, FIRST_ID + k);
-        feed(b, packet, sizeof packet - 1);
+        uint8_t state[] = STATE("\0\0\0\0", "T"), bid[] = BID_SHORT("\0\0\0\0"), ask[] = ASK_LONG("\0\0\0\0");
+        set_number(state + 14, 4, FIRST_ID + k);
+        set_number(bid + 14, 4, FIRST_ID + k);
+        set_number(ask + 14, 4, FIRST_ID + k);
+        feed(b, state, sizeof state - 1);
+        feed(b, bid, sizeof bid - 1);
+        if (k != 0)
+            feed(b, ask, sizeof ask - 1);
     }
 }
 
-/* The reader's image by the words of document 01, with any count of blocks, of rows
- * that are named and any version; blocks past the rows are empty. Its length. */
-static size_t lay_image(const struct bench *b, size_t blocks, uint32_t named, uint32_t version, uint8_t *image)
+/* The image of a reader, whole. */
+static size_t lay_whole(const struct bench *b, uint32_t version, uint8_t *image)
 {
-    memset(image, 0, blocks * BLOCK);
-    for (size_t k = 0; k < blocks; k++) {
-        set_number(image + k * BLOCK, 2, k);
-        set_number(image + k * BLOCK + 2, 2, blocks);
-        set_number(image + k * BLOCK + 4, 2, version);
-        set_number(image + k * BLOCK + 6, 8, b->r.next);
-    }
-    memcpy(image + 14, b->r.session, 10);
-    image[24] = 1;
-    image[25] = b->r.event;
-    set_number(image + 26, 2, named);
-    set_number(image + 28, 8, b->r.live);
-    for (size_t k = 0; k < b->r.rows && k / 4 + 1 < blocks; k++)
-        memcpy(image + (1 + k / 4) * BLOCK + 14 + k % 4 * 124, b->table + k * 124, 124);
-    seal(image, blocks * BLOCK);
-    return blocks * BLOCK;
+    return lay_image(b, blocks_of(b->r.rows), b->r.rows, version, image);
 }
 
-static void expect_restored(int line, const struct bench *from, const uint8_t *image, size_t n)
+/* Restored from its image in a version: only version 3 says when sides were set. */
+static void expect_restored(int line, const struct bench *from, uint32_t version, const uint8_t *image, size_t n)
 {
-    struct bench b, wanted = *from;
+    struct bench b, wanted = version == 3 ? *from : with_unknown(from);
     memset(&b, 0xDD, sizeof b);
     equal_at(line, (uint64_t)plain_restore(&b.r, b.table, sizeof b.table, b.index, sizeof b.index, image, n), 0,
              "restore");
@@ -78,51 +59,72 @@ static void expect_restored(int line, const struct bench *from, const uint8_t *i
     expect_at(line, same_bench(&b, &wanted), "the reader restored");
 }
 
-/* Saved by its rows, and restored; one byte short, nothing is written. */
-static void saved_by_rows(uint32_t rows)
+/* Saved in version 3, whatever the rows, and restored; one byte short, nothing is
+ * written. */
+static void saved_with_times(uint32_t rows)
 {
     static uint8_t image[PLAIN_IMAGE_BYTES + BLOCK], wanted[PLAIN_IMAGE_BYTES];
     struct bench b;
     size_t n, length;
     begin_rows(&b, rows);
-    length = lay_image(&b, blocks_of(rows), rows, version_of(rows), wanted);
+    length = lay_whole(&b, 3, wanted);
     memset(image, 0x5A, sizeof image);
     EQUAL(plain_save(&b.r, b.table, sizeof b.table, image, length - 1, &n), 25, "one byte short");
     EQUAL(image[0], 0x5A, "nothing written");
     EQUAL(plain_save(&b.r, b.table, sizeof b.table, image, length, &n), 0, "save");
     EQUAL(n, length, "the image's length");
     for (size_t at = 0; at < n; at += BLOCK)
-        EQUAL(get_number(image + at + 4, 2), version_of(rows), "a block's version");
+        EQUAL(get_number(image + at + 4, 2), 3, "a block's version");
     EXPECT(memcmp(image, wanted, n) == 0, "the image's bytes");
     for (size_t at = n; at < sizeof image; at++)
         EQUAL(image[at], 0x5A, "nothing past the image");
-    expect_restored(__LINE__, &b, image, n);
+    expect_restored(__LINE__, &b, 3, image, n);
 }
 
-/* A version in all blocks, or in one block alone, that is not the one for the rows. */
+/* An image that is right but for the version of some one block. */
+static void one_version_wrong(const struct bench *b, uint32_t right, uint32_t wrong)
+{
+    static uint8_t image[PLAIN_IMAGE_BYTES];
+    for (size_t k = 0; k < blocks_of(b->r.rows); k = 2 * k + 1) {
+        size_t n = lay_whole(b, right, image);
+        set_number(image + k * BLOCK + 4, 2, wrong);
+        seal(image, n);
+        if (n > BLOCK)
+            restore_refused(__LINE__, image, n, 23);
+    }
+}
+
+/* Each version in all blocks, and in one block alone: 3 is right for any rows, and
+ * one of 1 and 2. */
 static void versions_by_rows(uint32_t rows)
 {
-    static const uint16_t versions[] = {0, 1, 2, 3, 4, 0x0100, 0x0101, 0x0200, 0x0201, 0xFFFF};
+    static const uint16_t versions[] = {0, 1, 2, 3, 4, 0x0100, 0x0101, 0x0200, 0x0201, 0x0300, 0x0301, 0x0103, 0xFFFF};
     static uint8_t image[PLAIN_IMAGE_BYTES];
     struct bench b;
     begin_rows(&b, rows);
     for (size_t i = 0; i < sizeof versions / sizeof *versions; i++) {
-        size_t n = lay_image(&b, blocks_of(rows), rows, versions[i], image);
-        if (versions[i] == version_of(rows)) {
-            expect_restored(__LINE__, &b, image, n);
-            continue;
-        }
-        restore_refused(__LINE__, image, n, 23);
-        for (size_t k = 0; k < blocks_of(rows); k = 2 * k + 1) {
-            lay_image(&b, blocks_of(rows), rows, version_of(rows), image);
-            set_number(image + k * BLOCK + 4, 2, versions[i]);
-            seal(image, n);
+        size_t n = lay_whole(&b, versions[i], image);
+        if (versions[i] == 3 || versions[i] == old_version(rows))
+            expect_restored(__LINE__, &b, versions[i], image, n);
+        else
             restore_refused(__LINE__, image, n, 23);
-        }
+        if (versions[i] != 3)
+            one_version_wrong(&b, 3, versions[i]);
+        if (versions[i] != old_version(rows))
+            one_version_wrong(&b, old_version(rows), versions[i]);
     }
 }
 
-/* The version goes by the rows that block 0 names, and not by the blocks there are;
+/* What an image is refused with that has this version, and room for so many rows, but
+ * names others. */
+static int refusal_of_named(uint32_t version, uint32_t named, uint32_t rows)
+{
+    if (version != 3 && version != old_version(named))
+        return 23;
+    return named != rows ? 24 : 0;
+}
+
+/* Versions 1 and 2 go by the rows that block 0 names, and not by the blocks there are;
  * a count that those rows don't fit comes after it. */
 static void named_rows(uint32_t rows)
 {
@@ -132,54 +134,61 @@ static void named_rows(uint32_t rows)
     begin_rows(&b, rows);
     for (size_t i = 0; i < COUNTS + sizeof others / sizeof *others; i++) {
         uint32_t named = i < COUNTS ? counts[i] : others[i - COUNTS];
-        for (uint32_t version = 0; version <= 3; version++) {
+        for (uint32_t version = 0; version <= 4; version++) {
             size_t n = lay_image(&b, blocks_of(rows), named, version, image);
-            if (version != version_of(named))
-                restore_refused(__LINE__, image, n, 23);
-            else if (named != rows)
-                restore_refused(__LINE__, image, n, 24);
+            int refusal = refusal_of_named(version, named, rows);
+            if (refusal != 0)
+                restore_refused(__LINE__, image, n, refusal);
         }
     }
 }
 
 /* As many blocks as there may be, and more, with heads that are right. */
-static void counts_of_blocks(void)
+static void counts_of_blocks(uint32_t version)
 {
     static const size_t over[] = {PLAIN_MAX_BLOCKS + 1, PLAIN_MAX_BLOCKS + 2, 2 * PLAIN_MAX_BLOCKS};
     static uint8_t image[2 * PLAIN_IMAGE_BYTES];
     struct bench b;
     begin_rows(&b, PLAIN_MAX_ROWS);
     for (size_t i = 0; i < sizeof over / sizeof *over; i++) {
-        size_t n = lay_image(&b, over[i], (uint32_t)(over[i] - 1) * 4, 2, image);
+        size_t n = lay_image(&b, over[i], (uint32_t)(over[i] - 1) * 4, version, image);
         restore_refused(__LINE__, image, n, 21);
         restore_refused(__LINE__, image, n - 1, 21);
-        lay_image(&b, over[i], PLAIN_MAX_ROWS, 2, image);
+        lay_image(&b, over[i], PLAIN_MAX_ROWS, version, image);
         restore_refused(__LINE__, image, n, 21);
     }
-    lay_image(&b, PLAIN_MAX_BLOCKS, PLAIN_MAX_ROWS, 2, image);
+    lay_whole(&b, version, image);
     restore_refused(__LINE__, image, PLAIN_IMAGE_BYTES - 1, 21);
     restore_refused(__LINE__, image, PLAIN_IMAGE_BYTES + 1, 21);
     restore_refused(__LINE__, image, PLAIN_IMAGE_BYTES + BLOCK, 21);
     restore_refused(__LINE__, image, PLAIN_IMAGE_BYTES - BLOCK, 23); /* the count says one more */
+}
+
+/* Every count of blocks that there may be, in both versions that it has. */
+static void each_count_of_blocks(void)
+{
+    static uint8_t image[PLAIN_IMAGE_BYTES];
     for (size_t blocks = 2; blocks <= PLAIN_MAX_BLOCKS; blocks++) {
-        struct bench c;
-        begin_rows(&c, (uint32_t)(blocks - 1) * 4);
-        lay_image(&c, blocks, c.r.rows, version_of(c.r.rows), image);
-        expect_restored(__LINE__, &c, image, blocks * BLOCK);
+        struct bench b;
+        begin_rows(&b, (uint32_t)(blocks - 1) * 4);
+        lay_whole(&b, 3, image);
+        expect_restored(__LINE__, &b, 3, image, blocks * BLOCK);
+        lay_whole(&b, old_version(b.r.rows), image);
+        expect_restored(__LINE__, &b, old_version(b.r.rows), image, blocks * BLOCK);
     }
 }
 
-/* The lowest number wins in an image of version 2 too. */
-static void order_of_refusals(void)
+/* The lowest number wins in images of versions 2 and 3 too. */
+static void order_of_refusals(uint32_t version)
 {
     static uint8_t image[PLAIN_IMAGE_BYTES + BLOCK];
     struct bench b;
     size_t n;
     begin_rows(&b, LAST_OF_1 + 1);
     b.table[52] = '?';
-    n = lay_image(&b, blocks_of(b.r.rows), b.r.rows, 2, image);
+    n = lay_whole(&b, version, image);
     restore_refused(__LINE__, image, n, 24);
-    n = lay_image(&b, blocks_of(b.r.rows), b.r.rows, 1, image);
+    n = lay_whole(&b, 1, image);
     restore_refused(__LINE__, image, n, 23);
     image[n - 1] ^= 1;
     restore_refused(__LINE__, image, n, 22);
@@ -199,7 +208,9 @@ static void ids_of_a_full_table(void)
             struct bench c = b;
             memcpy(c.table + rows[i] * PLAIN_ROW_BYTES, b.table + rows[k] * PLAIN_ROW_BYTES, 4);
             EQUAL(plain_save(&c.r, c.table, sizeof c.table, image, sizeof image, &n), 24, "an id twice");
-            n = lay_image(&c, PLAIN_MAX_BLOCKS, PLAIN_MAX_ROWS, 2, image);
+            n = lay_whole(&c, 2, image);
+            restore_refused(__LINE__, image, n, 24);
+            n = lay_whole(&c, 3, image);
             restore_refused(__LINE__, image, n, 24);
         }
 }
@@ -251,29 +262,49 @@ void test_versions(void)
 {
     sizes();
     for (size_t i = 0; i < COUNTS; i++) {
-        saved_by_rows(counts[i]);
+        saved_with_times(counts[i]);
         versions_by_rows(counts[i]);
         named_rows(counts[i]);
     }
-    counts_of_blocks();
-    order_of_refusals();
+    for (uint32_t version = 2; version <= 3; version++) {
+        counts_of_blocks(version);
+        order_of_refusals(version);
+    }
+    each_count_of_blocks();
     ids_of_a_full_table();
     rows_up_to_the_last();
     other_sizes();
 }
 
-/* An image in a file is restored, and saved to the same bytes. */
+/* A move gives these bytes. */
+static void expect_moved(const char *path, int (*move)(const uint8_t *, size_t, uint8_t *, size_t, size_t *),
+                         const uint8_t *image, size_t n, const uint8_t *wanted)
+{
+    static uint8_t moved[PLAIN_IMAGE_BYTES];
+    size_t written;
+    EQUAL(move(image, n, moved, sizeof moved, &written), 0, path);
+    EXPECT(written == n && memcmp(moved, wanted, n) == 0, path);
+}
+
+/* An image in a file is restored, and saved to the same bytes, or where it is of version 1
+ * or 2, to those of its move forward; moved back, those are the file's again. */
 static void sample(const char *path)
 {
     static uint8_t image[PLAIN_IMAGE_BYTES + 1], again[PLAIN_IMAGE_BYTES];
     long length = read_file("plaintest", path, image, sizeof image);
+    bool timed = get_number(image + 4, 2) == 3;
     struct bench b;
     size_t n;
     EXPECT(length > 0, path);
     EQUAL(plain_restore(&b.r, b.table, sizeof b.table, b.index, sizeof b.index, image, (size_t)length), 0, path);
     EQUAL(plain_save(&b.r, b.table, sizeof b.table, again, sizeof again, &n), 0, path);
-    EXPECT(n == (size_t)length && memcmp(image, again, n) == 0, path);
-    EQUAL(get_number(image + 4, 2), version_of(b.r.rows), path);
+    EQUAL(n, (size_t)length, path);
+    EXPECT((memcmp(again, image, n) == 0) == timed, path);
+    if (timed)
+        return;
+    EQUAL(get_number(image + 4, 2), old_version(b.r.rows), path);
+    expect_moved(path, plain_forward, image, n, again);
+    expect_moved(path, plain_back, again, n, image);
 }
 
 void test_samples(size_t n, char *const *paths)

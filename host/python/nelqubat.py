@@ -14,6 +14,15 @@ Where no events are wanted, a piece is read by runs of so many packets:
     for ran in reader.runs(piece, 200):
         show(reader.rows())
 
+How old a side is says row.bid_time or row.ask_time, the time of the latest message that set it: None where it was never quoted, and
+TIME_UNKNOWN where its table was saved by a library that kept no such times (row.knows_bid_time tells).
+
+    if row.knows_bid_time:
+        age = row.time - row.bid_time
+
+Such an old table, of version 1 or 2, is restored as any other; forward() moves it to version 3, and back() moves a table back to the old
+version, for an older library, without its times.
+
 What a call refuses is raised as Refused, with its number in document 01; a packet that a run refuses is told in its answer.
 Prices are whole numbers of ten-thousandths of a dollar, above zero, or None where nobody bids or offers; a strike may be 0.
 The library is the shared object that NELQUBAT_SO names, or libnelqubat.so beside this file or in target/host, where
@@ -24,13 +33,14 @@ import ctypes
 import os
 from typing import NamedTuple, Optional
 
-VERSION = 5
+VERSION = 6
 MAX_ROWS, ROW_BYTES, BLOCK_ROWS, BLOCK_BYTES = 500, 124, 4, 512
 MAX_BLOCKS = 1 + (MAX_ROWS + BLOCK_ROWS - 1) // BLOCK_ROWS
 HANDLE_BYTES, TABLE_BYTES, INDEX_BYTES, RECORD_BYTES = 305, MAX_ROWS * ROW_BYTES, MAX_ROWS * 2, 112
 IMAGE_BYTES, LINE_BYTES, MESSAGE_BYTES = MAX_BLOCKS * BLOCK_BYTES, 80, 63
 PIECE_BYTES = 65536
 MAX_PACKETS = 1000
+TIME_UNKNOWN = 2 ** 64 - 1
 KINDS = ("more", "login", "rejected", "message", "heartbeat", "end", "skipped", "ended", "refused", "ceiling")
 REFUSALS = {
     1: "packet length is 0 or over 256", 2: "packet letter is not known", 3: "packet in the wrong place",
@@ -38,8 +48,8 @@ REFUSALS = {
     10: "message letter is not known", 11: "message has the wrong length", 12: "message field outside its list or range",
     13: "no row has this id", 14: "instrument does not trade", 15: "directory changes a fixed field", 16: "table is full",
     20: "memory has the wrong length, is no handle or has a false index", 21: "image length is wrong", 22: "block check is wrong",
-    23: "block head is wrong", 24: "contents break the row or block rules", 25: "output memory is too short",
-    26: "record breaks its field rules", 27: "ceiling is over 1,000 packets"}
+    23: "block head or version is wrong", 24: "contents break the row or block rules of the version",
+    25: "output memory is too short", 26: "record breaks its field rules", 27: "ceiling is over 1,000 packets"}
 
 
 class Refused(Exception):
@@ -107,7 +117,8 @@ class RowBytes(_Fields):
         ("day", ctypes.c_uint8), ("strike", ctypes.c_uint32), ("type", ctypes.c_uint8), ("underlying", _text(13)),
         ("closing", ctypes.c_uint8), ("tradable", ctypes.c_uint8), ("variation", ctypes.c_uint8), ("reserved", _text(16)),
         ("state", ctypes.c_uint8), ("condition", ctypes.c_uint8), ("sides", ctypes.c_uint8), ("gap", ctypes.c_uint8),
-        ("bid", SideBytes), ("ask", SideBytes), ("tracking", ctypes.c_uint16), ("time", ctypes.c_uint64), ("tail", _text(18))]
+        ("bid", SideBytes), ("ask", SideBytes), ("tracking", ctypes.c_uint16), ("time", ctypes.c_uint64),
+        ("bid_time", ctypes.c_uint64), ("ask_time", ctypes.c_uint64), ("tail", _text(2))]
 
 
 class HandleBytes(ctypes.BigEndianStructure):
@@ -138,7 +149,8 @@ class Directory(NamedTuple):
 
 class Row(NamedTuple):
     """A copy of a row; `state` is "" before any. A side that was never quoted is None; one that was quoted with no price
-    is a Side whose price is None."""
+    is a Side whose price is None. `time` is that of the latest message, and `bid_time` and `ask_time` those of the latest that
+    set the side: None where it was never quoted, TIME_UNKNOWN where it is not known."""
 
     id: int
     directory: Directory
@@ -148,6 +160,18 @@ class Row(NamedTuple):
     ask: Optional[Side]
     tracking: int
     time: int
+    bid_time: Optional[int]
+    ask_time: Optional[int]
+
+    @property
+    def knows_bid_time(self):
+        """Whether the bid was quoted, and its time is known."""
+        return self.bid_time is not None and self.bid_time != TIME_UNKNOWN
+
+    @property
+    def knows_ask_time(self):
+        """Whether the ask was quoted, and its time is known."""
+        return self.ask_time is not None and self.ask_time != TIME_UNKNOWN
 
 
 class Message(NamedTuple):
@@ -191,8 +215,10 @@ def _directory(b):
 
 def _row(data):
     b = RowBytes.from_buffer_copy(data)
-    return Row(b.id, _directory(b), b._letter("state"), b._letter("condition"), b.bid.side(1) if b.sides & 1 else None,
-               b.ask.side(1) if b.sides & 2 else None, b.tracking, b.time)
+    has_bid, has_ask = b.sides & 1, b.sides & 2
+    return Row(b.id, _directory(b), b._letter("state"), b._letter("condition"), b.bid.side(1) if has_bid else None,
+               b.ask.side(1) if has_ask else None, b.tracking, b.time, b.bid_time if has_bid else None,
+               b.ask_time if has_ask else None)
 
 
 def _message(data):
@@ -213,7 +239,7 @@ def _find_library():
 
 # How many memories each call is lent, a pointer and a count for each. A line also has its number before the last, and behind them
 # a find has the id and a run its ceiling.
-_LENT = {"start": 3, "step": 5, "save": 3, "restore": 4, "read": 2, "write": 2}
+_LENT = {"start": 3, "step": 5, "save": 3, "restore": 4, "forward": 2, "back": 2, "read": 2, "write": 2}
 
 
 def _load():
@@ -274,6 +300,22 @@ def encode(message):
     return bytes(out)[:count]
 
 
+def _moved(call, image):
+    out = _memory(IMAGE_BYTES)
+    count = _done(call(*_lent(image), out, IMAGE_BYTES))
+    return bytes(out)[:count]
+
+
+def forward(image):
+    """A saved table of version 1 or 2 as one of version 3, where the time of each side that was quoted is unknown."""
+    return _moved(_library.nelqubat_forward, image)
+
+
+def back(image):
+    """A saved table of version 3 as one of version 1, or 2 with more than 256 rows, without the times of its sides."""
+    return _moved(_library.nelqubat_back, image)
+
+
 class Reader:
     """A reader of one session, with its table of at most MAX_ROWS instruments. It is used by one thread at a time."""
 
@@ -286,13 +328,13 @@ class Reader:
 
     @classmethod
     def restore(cls, image):
-        """A reader from a saved table. It waits for a login with the saved session and next number."""
+        """A reader from a saved table of any version. It waits for a login with the saved session and next number."""
         reader = cls()
         _done(_library.nelqubat_restore(*reader._all, *_lent(image)))
         return reader
 
     def save(self):
-        """The saved table, as bytes: version 1 with up to 256 rows, version 2 with more."""
+        """The saved table, as bytes: version 3."""
         out = _memory(IMAGE_BYTES)
         count = _done(_library.nelqubat_save(*self._both, out, IMAGE_BYTES))
         return bytes(out)[:count]

@@ -42,17 +42,25 @@ def dollars(price):
     return f"{price // 10000}.{price % 10000:04}"
 
 
-def shown(side):
+def age(knows, time, now):
+    if not knows:
+        return "?"
+    micros = (now - time) // 1000
+    return f"{micros // 1000000}.{micros % 1000000:06}"
+
+
+def shown(side, *when):
     """A side as the example rows prints it."""
     if side is None:
         return "-"
-    return "none" if side.price is None else f"{dollars(side.price)}x{side.size}"
+    return ("none" if side.price is None else f"{dollars(side.price)}x{side.size}") + "@" + age(*when)
 
 
 def changed(number, letter, row):
     """A line as the example rows prints it."""
     d = row.directory
-    sides = f"{shown(row.bid)} {shown(row.ask)}"
+    sides = (shown(row.bid, row.knows_bid_time, row.bid_time, row.time) + " "
+             + shown(row.ask, row.knows_ask_time, row.ask_time, row.time))
     return (f"{number} {letter} {row.id} {d.symbol:8} {d.year:02}-{d.month:02}-{d.day:02} {d.type} {dollars(d.strike)} "
             f"{row.state or '-'} {sides}\n")
 
@@ -65,6 +73,18 @@ def directory(ident):
     """The packet of a directory for an id."""
     return (b"\x00\x40Sm" + bytes(10) + ident.to_bytes(4, "big") + b"IBM     " + bytes([26, 12, 18]) + bytes(4)
             + b"CIBM          NYS" + bytes(16))
+
+
+def trading(ident, state=b"T"):
+    """The packet of a state for an id."""
+    return b"\x00\x11SH" + bytes(10) + ident.to_bytes(4, "big") + state
+
+
+def quote(letter, ident, time):
+    """The packet of a short quote for an id, with price 1 on each side."""
+    numbers = bytes([0, 1]) * (10 if letter == b"q" else 5)
+    message = letter + bytes(2) + time.to_bytes(8, "big") + ident.to_bytes(4, "big") + b" " + numbers
+    return (len(message) + 1).to_bytes(2, "big") + b"S" + message
 
 
 class Layouts(unittest.TestCase):
@@ -82,6 +102,8 @@ class Layouts(unittest.TestCase):
 
     def test_version(self):
         self.assertIn(f"#define NELQUBAT_VERSION {nelqubat.VERSION}\n", header())
+        self.assertIn("#define NELQUBAT_TIME_UNKNOWN UINT64_MAX\n", header())
+        self.assertEqual(nelqubat.TIME_UNKNOWN, 0xFFFFFFFFFFFFFFFF)
 
     def test_sizes(self):
         for name in ("HANDLE", "TABLE", "INDEX", "RECORD", "ROW", "BLOCK", "IMAGE", "LINE", "MESSAGE"):
@@ -124,6 +146,15 @@ class Sessions(unittest.TestCase):
         self.assertEqual("".join(lines).encode(), text(EXAMPLES, "rows.txt"))
         self.assertIsNone(reader.row(1))
         self.assertEqual(len(reader.rows()), len(text(SAMPLES, "whole.txt").splitlines()) - 2)
+
+    def test_rows_of_old_table(self):
+        """From a table without times, as it was and moved forward."""
+        for name in ("old-version-1.image", "old-version-1.moved"):
+            reader, lines = nelqubat.Reader.restore(text(SAMPLES, name)), []
+            for event in reader.read(os.path.join(SAMPLES, "old-version-1.soup")):
+                if event.kind == "message" and event.message.id in (40428, 40792, 41199):
+                    lines.append(changed(reader.next - 1, event.message.letter, reader.row(event.message.id)))
+            self.assertEqual("".join(lines).encode(), text(EXAMPLES, "rows-old.txt"))
 
     def test_rows_without_price(self):
         reader, lines = nelqubat.Reader(), []
@@ -177,14 +208,22 @@ class Sessions(unittest.TestCase):
         self.assertEqual(len(list(reader.feed(login(b"SESSION001", 1) + b"".join(packets)))), rows + 1)
         return reader
 
+    def has_version(self, image, blocks, version):
+        self.assertEqual(len(image), blocks * nelqubat.BLOCK_BYTES)
+        for at in range(4, len(image), nelqubat.BLOCK_BYTES):
+            self.assertEqual(image[at:at + 2], bytes([0, version]))
+
     def test_versions(self):
-        """Saved, restored and resumed with an instrument more, beside the most rows of version 1 and of a table."""
+        """Saved, restored and resumed with an instrument more, beside the most rows of version 1 and of a table; and moved back, and
+        forward again, where no side was quoted."""
         for rows, blocks, version in ((0, 1, 1), (255, 65, 1), (256, 65, 1), (257, 66, 2), (300, 76, 2), (499, 126, 2)):
             reader = self.listed(rows)
             image = reader.save()
-            self.assertEqual(len(image), blocks * nelqubat.BLOCK_BYTES)
-            for at in range(4, len(image), nelqubat.BLOCK_BYTES):
-                self.assertEqual(image[at:at + 2], bytes([0, version]))
+            self.has_version(image, blocks, 3)
+            old = nelqubat.back(image)
+            self.has_version(old, blocks, version)
+            self.assertEqual(nelqubat.forward(old), image)
+            self.assertEqual(nelqubat.Reader.restore(old).rows(), reader.rows())
             again = nelqubat.Reader.restore(image)
             self.assertEqual((again.rows(), again.next, again.save()), (reader.rows(), rows + 1, image))
             self.assertEqual(self.numbers(again), self.true_numbers(reader))
@@ -209,18 +248,72 @@ class Sessions(unittest.TestCase):
         runs = list(reader.runs(text(SAMPLES, "full.soup")))
         self.assertEqual((runs[-1].why, runs[-1].refusal), ("refused", 16))
         self.assertEqual(reader.listing().encode(), text(SAMPLES, "full.txt"))
-        self.assertEqual(reader.save(), text(SAMPLES, "rows-500.image"))
+        self.assertEqual(nelqubat.back(reader.save()), text(SAMPLES, "rows-500.image"))
 
     def test_sample_images(self):
-        """Restored and saved again; and each is the saved table of its session, read so far."""
+        """Old tables restored, and saved as they are moved forward; and each is the saved table of its session, read so far and moved
+        back."""
         for rows, name in ((256, "full"), (257, "full"), (300, "wide"), (500, "full")):
             image, rest = text(SAMPLES, f"rows-{rows}.image"), text(SAMPLES, name + ".soup")
             again, reader = nelqubat.Reader.restore(image), nelqubat.Reader()
-            self.assertEqual((len(again.rows()), again.save()), (rows, image))
+            self.assertEqual((len(again.rows()), again.save()), (rows, nelqubat.forward(image)))
             while rest and reader.next < again.next:
                 rest = rest[reader.run(rest, 1).taken:]
-            self.assertEqual(reader.save(), image)
+            self.assertEqual(nelqubat.back(reader.save()), image)
             self.assertEqual(self.numbers(again), self.numbers(reader))
+
+    def test_sample_with_times(self):
+        image, reader = text(SAMPLES, "times-300.image"), nelqubat.Reader()
+        list(reader.runs(text(SAMPLES, "wide.soup")))
+        self.assertEqual(reader.save(), image)
+        again = nelqubat.Reader.restore(image)
+        self.assertEqual((again.rows(), again.save()), (reader.rows(), image))
+        self.assertEqual(nelqubat.back(image), text(SAMPLES, "rows-300.image"))
+
+    def test_old_files(self):
+        """What the program of before W-209 saved: restored, moved, moved back, and gone on to the end of the session."""
+        for name, rows in (("old-version-1", 62), ("old-version-2", 300), ("old-one-side", 8)):
+            image, moved = text(SAMPLES, name + ".image"), text(SAMPLES, name + ".moved")
+            self.assertEqual(nelqubat.forward(image), moved)
+            self.assertEqual(nelqubat.back(moved), image)
+            reader, same = nelqubat.Reader.restore(image), nelqubat.Reader.restore(moved)
+            self.assertEqual((reader.rows(), reader.next, reader.session), (same.rows(), same.next, same.session))
+            self.assertEqual((len(reader.rows()), reader.save()), (rows, moved))
+            for row in reader.rows():
+                self.assertEqual(row.bid_time, row.bid and nelqubat.TIME_UNKNOWN)
+                self.assertEqual(row.ask_time, row.ask and nelqubat.TIME_UNKNOWN)
+            list(reader.read(os.path.join(SAMPLES, name + ".soup")))
+            self.assertEqual(reader.listing().encode(), text(SAMPLES, name + ".txt"))
+
+    def test_moves_refused(self):
+        old, new = text(SAMPLES, "old-version-1.image"), text(SAMPLES, "times-300.image")
+        for call, image, number in (
+                (nelqubat.forward, new, 23), (nelqubat.back, old, 23), (nelqubat.forward, b"", 21), (nelqubat.back, new[:-1], 21),
+                (nelqubat.forward, old[:600] + b"X" + old[601:], 22), (nelqubat.back, new[:600] + b"X" + new[601:], 22),
+                (nelqubat.forward, bytes(512), 23), (nelqubat.back, bytes(512), 23), (nelqubat.back, new + bytes(65536), 21)):
+            with self.assertRaises(nelqubat.Refused) as caught:
+                call(image)
+            self.assertEqual(caught.exception.number, number)
+
+    def test_times(self):
+        """Each side has the time of the latest message that set it; never quoted, unknown and known are told apart."""
+        reader = nelqubat.Reader()
+        list(reader.feed(login(b"SESSION001", 1) + directory(7) + trading(7)))
+        self.assertEqual((reader.row(7).bid_time, reader.row(7).ask_time), (None, None))
+        for letter, time, bid, ask in ((b"b", 0, 0, None), (b"a", 20, 0, 20), (b"a", 30, 0, 30), (b"q", 40, 40, 40), (b"b", 5, 5, 40)):
+            list(reader.feed(quote(letter, 7, time)))
+            row = reader.row(7)
+            self.assertEqual((row.time, row.bid_time, row.ask_time), (time, bid, ask))
+            self.assertEqual((row.knows_bid_time, row.knows_ask_time), (True, ask is not None))
+        later = nelqubat.Reader.restore(nelqubat.back(reader.save()))
+        row = later.row(7)
+        self.assertEqual((row.time, row.bid_time, row.ask_time), (5, nelqubat.TIME_UNKNOWN, nelqubat.TIME_UNKNOWN))
+        self.assertEqual((row.bid, row.ask, row.knows_bid_time, row.knows_ask_time), (reader.row(7).bid, reader.row(7).ask, False, False))
+        list(later.feed(login(b"SESSION001", later.next) + quote(b"a", 7, 60)))
+        self.assertEqual((later.row(7).knows_bid_time, later.row(7).ask_time), (False, 60))
+        self.assertNotEqual(nelqubat.forward(nelqubat.back(later.save())), later.save())
+        list(later.feed(directory(7).replace(b"NYS", b"NNS")))
+        self.assertEqual((later.row(7).bid_time, later.row(7).ask_time, later.row(7).knows_bid_time), (None, None, False))
 
     def refused_20(self, call, *arguments):
         with self.assertRaises(nelqubat.Refused) as caught:
@@ -250,7 +343,8 @@ class Sessions(unittest.TestCase):
         self.refused_20(reader.row, 0)
 
     def test_resumed(self):
-        session = text(SAMPLES, "whole.soup")
+        session, whole = text(SAMPLES, "whole.soup"), nelqubat.Reader()
+        list(whole.feed(session))
         for stop in (1, 300, 610):
             reader, at = nelqubat.Reader(), 0
             while reader.next <= stop:
@@ -263,6 +357,7 @@ class Sessions(unittest.TestCase):
             list(again.feed(session[at:]))
             self.assertTrue(again.ended)
             self.assertEqual(again.listing().encode(), text(SAMPLES, "whole.txt"))
+            self.assertEqual(again.rows(), whole.rows())
 
     def test_runs(self):
         session = text(SAMPLES, "whole.soup")

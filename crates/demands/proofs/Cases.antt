@@ -27,16 +27,16 @@ use Rattle.reader.specs.Limits.{unfinished, holdsUnfinished, withinLimits, mayS
 use Rattle.reader.specs.Calls.{stepIn, stepAll}
 use Rattle.reader.specs.Saving.{saveAll}
 use Rattle.block.specs.Block.{weighted, checkOf, headBytes, sealed, blockOf}
-use Rattle.image.specs.Shape.{pagesFor, blocksFor, versionFor, headFor}
+use Rattle.image.specs.Shape.{pagesFor, blocksFor, headFor}
 use Rattle.image.specs.Header as headers
 use Rattle.image.specs.Header.{sessionBytes, boardBytes, firstBody, headerKeeps, isFresh}
-use Rattle.image.specs.Save.{bodyOf, savedBlock, blocks, imageOf, sizeFor, saveOf}
+use Rattle.image.specs.Save.{bodyOf, savedBlock, blocks, imageIn, sizeFor, saveOf}
 use Rattle.demands.specs.Cases.{calls, answered, Case, smallSet}
 
 -- THEOREM: C1 to C12, with memories of the right lengths, whatever the index holds
 pub small-set : (t : Memories) → length (t .table) ≡ tableSize → length (t .index) ≡ indexSize
     → map (λ (c : Case). answered t (c .question)) smallSet ≡ map (λ (c : Case). c .answer) smallSet
-unfolding calls stepAll stepIn mayStep withinLimits fits holdsUnfinished unfinished standing stepOf frame framed value soupBinTCP packetOf entryOf packetTable deliver readOf bytesRead letterRead fieldsRead letters letterAmong values keepsAll priceFrom listed part digits saveAll headers.withinLimits saveOf headerKeeps isFresh every boardKeeps rowsKeep sizeFor weighted checkOf headBytes sealed blockOf pagesFor blocksFor versionFor headFor sessionBytes boardBytes firstBody bodyOf savedBlock blocks imageOf overlay
+unfolding calls stepAll stepIn mayStep withinLimits fits holdsUnfinished unfinished standing stepOf frame framed value soupBinTCP packetOf entryOf packetTable deliver readOf bytesRead letterRead fieldsRead letters letterAmong values keepsAll priceFrom listed part digits saveAll headers.withinLimits saveOf headerKeeps isFresh every boardKeeps rowsKeep sizeFor weighted checkOf headBytes sealed blockOf pagesFor blocksFor headFor sessionBytes boardBytes firstBody bodyOf savedBlock blocks imageIn overlay
 small-set t long wide =
     let e : eqb (length (t .table)) tableSize ≡ true = eq-eqb (length (t .table)) tableSize long in
     let f : eqb (length (t .index)) indexSize ≡ true = eq-eqb (length (t .index)) indexSize wide in

@@ -1,4 +1,4 @@
--- PRICES: a message that is told holds no zero as a price above zero, and a side that it sets is seen and reads as its price, or as none.
+-- QUOTES: a message that is told holds no zero as a price above zero, and a side that it sets is seen, reads as its price or as none, and has its time.
 -- Assumes nothing.
 use mathlib.Core.Path.{_≡_, refl, ap, _∙_, subst}
 use mathlib.Core.Bool.{true}
@@ -19,16 +19,16 @@ use Rattle.message.specs.declared.Answer.the-variants as answer
 use Rattle.message.proofs.Typed.{read-typed}
 use Rattle.message.proofs.NoZero.{kept-no-zero}
 use Rattle.packet.specs.Session.{Delivered, done, denied}
-use Rattle.row.specs.Fields.{sidesOf, priceOf, hasSeen}
+use Rattle.row.specs.Fields.{sidesOf, priceOf, sideTimeOf, hasSeen}
 use Rattle.row.specs.Changes.{quoted}
 use Rattle.table.specs.Memory.{Memories, row}
 use Rattle.table.specs.Board.{Indexed, beside, outcome, accepted, look, applyOf}
-use Rattle.table.specs.Places.{quotedIn}
+use Rattle.table.specs.Places.{quotedIn, timeOf}
 use Rattle.table.specs.declared.Board.{Board}
 use Rattle.table.specs.declared.index.Sought.the-variants.{Here}
 use Rattle.table.specs.declared.Verdict.{Verdict}
 use Rattle.table.specs.declared.Verdict.the-variants.{Accepted, Refused}
-use Rattle.table.proofs.Quotes.{quoted-price}
+use Rattle.table.proofs.Quotes.{quoted-price, quoted-time}
 use Rattle.table.proofs.Kept.{quoted-seen}
 use Rattle.reader.specs.Deliver.{Table, tableOf, tableBy, Said, said, settledBy, heard, deliver}
 use Rattle.demands.specs.Sound.{SoundTable}
@@ -91,3 +91,9 @@ module _ (t t′ : Table) (body : List ℕ) (b : Bytes body) (s : SoundTable t) 
   -- so a price of 0 reads as none
   pub none-shown : n .price ≡ None → priceOf side (row k (t′ .memory .table)) ≡ None
   none-shown p = quote-shown .1 ∙ p
+
+  -- and the time of that side is the message's (W-209)
+  pub quote-timed : sideTimeOf side (row k (t′ .memory .table)) ≡ timeOf (x .message)
+  quote-timed =
+      let a = ap (λ (i : Indexed). i .outcome) (deliver-taken t t′ body x d .applied) in
+      quoted-time (t .board) (x .message) (x .texts) (t .memory) (t′ .board) (t′ .memory .table) a k w side n e (kept .0) (kept .1)

@@ -21,6 +21,7 @@ use Rattle.packet.specs.Stream.{live}
 use Rattle.packet.specs.Line.{freshLine, InRange}
 use Rattle.packet.specs.Session.{Session}
 use Rattle.packet.specs.declared.Line.{Line}
+use Rattle.row.specs.Rules.{newest}
 use Rattle.table.specs.Memory.{tableSize, Memories, memories, rowAt}
 use Rattle.table.specs.Index.{indexSize, isIndex, built}
 use Rattle.table.specs.Board.{freshBoard}
@@ -33,7 +34,8 @@ use Rattle.image.specs.Header as headers
 use Rattle.image.specs.Header.{freshHeader, headerKeeps, isFresh}
 use Rattle.image.specs.Save.{Saving, saving, unsaved, cleared, imageOf, sizeFor, saveOf}
 use Rattle.image.specs.Restore as images
-use Rattle.image.specs.Restore.{Restoring, restoring, restoreOf}
+use Rattle.image.specs.Restore.{versionOf, verdictIn, Restoring, restoring, restoreOf}
+use Rattle.image.specs.Moves.{movedOf}
 use Rattle.image.specs.declared.Header.{Header}
 use Rattle.image.specs.declared.Refusal.{Refusal}
 use Rattle.image.specs.declared.Refusal.the-variants.{Unfit}
@@ -41,8 +43,11 @@ use Rattle.image.specs.declared.Saved.{Saved}
 use Rattle.image.specs.declared.Saved.the-variants.{Whole, Unsaved}
 use Rattle.image.specs.declared.Verdict.{Verdict}
 use Rattle.image.specs.declared.Verdict.the-variants as verdict
-use Rattle.image.proofs.Rounds.{Good, Stored, stored, taken, sound-saved, sound-cleared, saved-restored, restored-saved, restored-good}
+use Rattle.image.specs.declared.Wanted.the-variants.{Any, Older}
+use Rattle.image.specs.declared.Way.the-variants.{Forward}
+use Rattle.image.proofs.Rounds.{Good, Stored, stored, taken, sound-saved, sound-cleared, saved-restored, restored-saved, restored-forward, restored-good}
 use Rattle.image.proofs.Again.{kept}
+use Rattle.image.proofs.Moved.{restore-forward}
 use Rattle.image.proofs.Fresh.{fresh-saved}
 use Rattle.image.proofs.Verdicts.{unsaved-leaves, refused-leaves}
 use Rattle.reader.specs.Refusals.{standing}
@@ -224,7 +229,7 @@ module _ (bytes : List ℕ) (t : Memories) (q : Restored) (t₁ : Memories) (h :
   unfolding headers.headerOf
   header-ten =
       let g = taken bytes (t .table) restoredTable header accepted-is in
-      rw (g .1) (part-length bytes 14 10 (omega (arith, kept bytes (g .0) .size .some)))
+      rw (g .1) (part-length bytes 14 10 (omega (arith, kept Any bytes (g .0) .0 .size .some)))
 
   -- THEOREM: a reader that was restored from bytes without refusal, its table and its index are as our own calls make them
   pub restore-ours : Bytes bytes → Ours (q .reader) t₁
@@ -317,7 +322,7 @@ module _ (r : Reader) (t : Memories) (o : Ours r t) (out : List ℕ) (room : siz
   comes-back t₀ l i q t₁ g =
       let n = sizeFor (r .board .rows) in
       let back : restoreOf (part z 0 n) (t₀ .table) ≡ restoring (images.restored verdict.Accepted (headerOf r)) (t .table)
-      = saved-restored (headerOf r) (t .table) out (t₀ .table) z n (o .sound .ten) l was-saved
+      = saved-restored (headerOf r) (t .table) out z n (o .sound .ten) was-saved (t₀ .table) l
       ∙ ap (restoring (images.restored verdict.Accepted (headerOf r))) (ours-cleared r t o) in
       let come = gives (part z 0 n) t₀ q t₁ g i (headerOf r) (t .table) back in
       (come .0, come .1 ∙ ap (λ (x : Memories). live (sessionOf (lineOf (headerOf r)) (r .board) x) []) (ours-indexed r t o))
@@ -354,15 +359,29 @@ module _ (bytes : List ℕ) (t : Memories) (q : Restored) (t₁ : Memories) (h :
       ap (λ (s : Session Table). headed (s .line) (s .about .board)) came-back
       ∙ line-back saved (header-ten bytes t q t₁ h v) (saved .known) refl (both-right (boardKeeps (saved .board)) (saved .known || isFresh saved) (g .header))
 
-  -- THEOREM: RESTORE, THEN SAVE. The bytes are those of the image, for every image that was not refused, of a known session or of none.
-  pub goes-back : (out : List ℕ) → length bytes ≤ length out → (a : Saved) (z : List ℕ) → Saves (q .reader) (t₁ .table) out a z
-      → (a ≡ Whole (length bytes)) × (z ≡ overlay out 0 bytes)
-  goes-back out room a z s =
+  -- saving it is saving what was restored
+  saved-as : (out image : List ℕ) → saveOf saved savedTable out ≡ saving (Whole (length bytes)) (overlay out 0 image) → (a : Saved) (z : List ℕ)
+      → Saves (q .reader) (t₁ .table) out a z → (a ≡ Whole (length bytes)) × (z ≡ overlay out 0 image)
+  saved-as out image s a z g =
       let o = restore-ours bytes t q t₁ h v b in
-      let same : saveOf (headerOf (q .reader)) (t₁ .table) out ≡ saving (Whole (length bytes)) (overlay out 0 bytes)
-      = ap (λ (x : Header). saveOf x (t₁ .table) out) header-back
-      ∙ ap (λ (x : Session Table). saveOf saved (x .about .memory .table) out) came-back
-      ∙ restored-saved bytes (t .table) out savedTable saved b (accepted-is bytes t q t₁ h v) room in
-      let e : saving a z ≡ saving (Whole (length bytes)) (overlay out 0 bytes)
-      = sym (saves-is (q .reader) (t₁ .table) out a z s (ours-within (q .reader) t₁ o)) ∙ same in
+      let e : saving a z ≡ saving (Whole (length bytes)) (overlay out 0 image)
+      = sym (saves-is (q .reader) (t₁ .table) out a z g (ours-within (q .reader) t₁ o))
+      ∙ ap (λ (x : Header). saveOf x (t₁ .table) out) header-back
+      ∙ ap (λ (x : Session Table). saveOf saved (x .about .memory .table) out) came-back ∙ s in
       (ap (λ (x : Saving). x .answer) e, ap (λ (x : Saving). x .out) e)
+
+  -- THEOREM: RESTORE, THEN SAVE. The bytes are those of the image, for every image of version 3 that was not refused, of a known session or of none.
+  pub goes-back : versionOf bytes ≡ newest → (out : List ℕ) → length bytes ≤ length out → (a : Saved) (z : List ℕ) → Saves (q .reader) (t₁ .table) out a z
+      → (a ≡ Whole (length bytes)) × (z ≡ overlay out 0 bytes)
+  goes-back n out room = saved-as out bytes (restored-saved bytes (t .table) out savedTable saved b n (accepted-is bytes t q t₁ h v) room)
+
+  -- THEOREM: and those of its move forward, for one of another version
+  pub goes-forward : eqb (versionOf bytes) newest ≡ false → (out : List ℕ) → length bytes ≤ length out → (a : Saved) (z : List ℕ) → Saves (q .reader) (t₁ .table) out a z
+      → (a ≡ Whole (length bytes)) × (z ≡ overlay out 0 (movedOf Forward bytes))
+  goes-forward n out room = saved-as out (movedOf Forward bytes) (restored-forward bytes (t .table) out savedTable saved n (accepted-is bytes t q t₁ h v) room)
+
+-- THEOREM: restoring an older image is restoring its move forward
+pub restores-forward : (bytes : List ℕ) → verdictIn Older bytes ≡ verdict.Accepted → (t : Memories) (q : Restored) (t₁ : Memories) → Restores bytes t q t₁
+    → Restores (movedOf Forward bytes) t q t₁
+unfolding restoreAll
+restores-forward bytes e t q t₁ h = rw (restore-forward bytes (t .table) e) h

@@ -21,6 +21,7 @@ use Rattle.packet.specs.Session.{Session}
 use Rattle.row.specs.Changes.{widened}
 use Rattle.table.specs.Memory.{Memories}
 use Rattle.table.specs.Board.{freshBoard}
+use Rattle.table.specs.Places.{timeOf}
 use Rattle.block.specs.Block.{blockSize, checkedSize}
 use Rattle.reader.specs.Deliver.{Table, Said}
 use Rattle.reader.specs.View.{readyOf, memoryIn}
@@ -81,14 +82,7 @@ calls r memory (piece ∷ pieces) =
     takes (s .taken) (s .answer) ∷ calls (readerIn (s .state)) (memoryIn (s .state)) pieces
 
 abbrev pub timeIn : answers.Answer → ℕ
-timeIn (answer.Is (message.SystemEvent m)) = m .stamp .time
-timeIn (answer.Is (message.Directory m)) = m .stamp .time
-timeIn (answer.Is (message.TradingAction m)) = m .stamp .time
-timeIn (answer.Is (message.ShortQuote m)) = m .stamp .time
-timeIn (answer.Is (message.LongQuote m)) = m .stamp .time
-timeIn (answer.Is (message.ShortSide m)) = m .stamp .time
-timeIn (answer.Is (message.LongSide m)) = m .stamp .time
-timeIn (answer.Is (message.EndOfReplay m)) = 0
+timeIn (answer.Is m) = timeOf m
 timeIn (answer.Refused r) = 0
 
 -- the price of a side that was given in pennies, as the number that its row keeps, 0 for none
@@ -175,6 +169,6 @@ smallSet =
     -- C11 price `7F FF FF FF` and `80 00 00 00`
     ∷ case (accepted (longBid (0x7F ∷ 0xFF ∷ 0xFF ∷ 0xFF ∷ []))) (number 0)
     ∷ case (accepted (longBid (0x80 ∷ 0x00 ∷ 0x00 ∷ 0x00 ∷ []))) (number 12)
-    -- C12 the fresh image is one block with check `18 78`
-    ∷ case freshImage (blocks 1 (0x18 ∷ 0x78 ∷ []))
+    -- C12 the fresh image is one block with check `18 84`
+    ∷ case freshImage (blocks 1 (0x18 ∷ 0x84 ∷ []))
     ∷ []

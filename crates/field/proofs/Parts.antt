@@ -191,6 +191,13 @@ pub overlay-whole : (xs ys : List ℕ) → length ys ≡ length xs → overlay x
 unfolding overlay
 overlay-whole xs ys e = rw (zero-add, e, drop-length) (append-nil ys)
 
+-- the same place again: the later counts
+pub overlay-again : (xs : List ℕ) (at : ℕ) (ys zs : List ℕ) → length ys ≡ length zs → at + length ys ≤ length xs
+    → overlay (overlay xs at ys) at zs ≡ overlay xs at zs
+overlay-again xs at ys zs e h =
+    rw (overlay-is (overlay xs at ys), take-overlay xs at ys h at (omega arith), drop-overlay xs at ys h (at + length zs) (omega arith))
+    (sym (overlay-is xs at zs))
+
 -- two next to each other are one
 pub overlay-next : (xs : List ℕ) (at : ℕ) (ys zs : List ℕ) → at + length ys + length zs ≤ length xs
     → overlay (overlay xs at ys) (at + length ys) zs ≡ overlay xs at (ys ++ zs)

@@ -11,7 +11,7 @@ use borrow.Author.Tests.{le-leb, lt-leb, leb-true}
 use lib.Dec.{leb, eqb, eqb·zero-suc, eqb·suc-suc}
 use lib.ListN.{length, take, drop, getD, replicate}
 use Rattle.field.specs.Bytes.{part}
-use Rattle.field.specs.Text.{within, every, leading, isSpace, isPrintable, isText, beginsWithNonSpace, onlySpacesAfterSpace}
+use Rattle.field.specs.Text.{within, every, leading, isSpace, isPrintable, isText, beginsWithNonSpace, onlySpacesAfterSpace, isZero}
 use Rattle.field.proofs.Bools.{both-left, both-right}
 use Rattle.field.proofs.Parts.{part-length, part-drop, rest-cons, rest-none}
 
@@ -176,6 +176,17 @@ text-run (c ∷ cs) some = by (isSpace c) refl
         → not b && every isPrintable (c ∷ cs) && onlySpacesAfterSpace (c ∷ cs) ≡ every isSpace (drop (leading isGraphic (c ∷ cs)) (c ∷ cs))
     by true s = absurd (some (rw (space c (is-space c s) .2)))
     by false s = printable-run (c ∷ cs)
+
+-- ---- zeros
+
+pub zeros-are : (xs : List ℕ) → every isZero xs ≡ true → xs ≡ replicate (length xs) 0
+unfolding every
+zeros-are [] e = refl
+zeros-are (x ∷ xs) e =
+    let z : x ≤ 0 = leb-true x 0 (both-right (leb 0 x) (leb x 0) (both-left (isZero x) (every isZero xs) e)) in
+    let a : x ≡ 0 = omega arith in
+    let b : xs ≡ replicate (length xs) 0 = zeros-are xs (both-right (isZero x) (every isZero xs) e) in
+    cc
 
 -- ---- what the code finds at a part
 

@@ -6,4 +6,5 @@ pub mod Astray
 pub mod Found
 pub mod Resume
 pub mod Before
+pub mod Moves
 pub mod Wrong

@@ -1,4 +1,4 @@
--- What an accepted image says, and that the image of what is restored from it is the image itself.
+-- What an accepted image says, and that the image of what it says, in its version, is the image itself.
 -- Assumes nothing.
 use mathlib.Core.Path.{_≡_, refl, sym, ap, _∙_}
 use mathlib.Core.Bool.{Bool, true, false, _&&_, cond}
@@ -15,6 +15,7 @@ use Rattle.field.specs.Limits.{numberInRange}
 use Rattle.field.specs.Text.{every, isZero}
 use Rattle.field.proofs.Bools.{both-left, both-right}
 use Rattle.field.proofs.Parts.{part-length, part-split, part-none, part-all}
+use Rattle.field.proofs.Runs.{zeros-are}
 use Rattle.block.specs.Block.{blockSize, headSize, bodySize, headAt, checkKeeps}
 use Rattle.block.proofs.Joins.{part-first, read-bytes}
 use Rattle.block.proofs.Blocks.{head-is, block-again}
@@ -22,20 +23,21 @@ use Rattle.row.specs.Fields.{rowSize}
 use Rattle.table.specs.Memory.{mostRows, tableSize, rowAt, row}
 use Rattle.table.specs.Board.{fits}
 use Rattle.table.specs.Rules.{rowsKeep}
-use Rattle.image.specs.Shape.{pagesFor, blocksFor, mostBlocks, headFor, pages, PagesIn, firstPage}
+use Rattle.image.specs.Shape.{pagesFor, blocksFor, mostBlocks, versionFits, welcome, headFor, pages, PagesIn, firstPage}
 use Rattle.image.specs.Header.{withinLimits, headerKeeps, flag, sessionBytes, boardBytes, factsSize, firstBody, headerOf}
-use Rattle.image.specs.Save.{pageOf, bodyOf, savedBlock, blocks, imageOf}
-use Rattle.image.specs.Restore.{countOf, lengthKeeps, checksKeep, headKeeps, headsKeep, factsKeep, slotsKeep, contentsKeep, verdictOf, memoryOf}
+use Rattle.image.specs.Save.{pageOf, bodyOf, savedBlock, blocks, imageIn}
+use Rattle.image.specs.Restore.{countOf, lengthKeeps, checksKeep, headKeeps, headsKeep, factsKeep, slotsKeep, contentsKeep, versionOf, verdictIn, rowsOf}
 use Rattle.image.specs.declared.Refusal.{Refusal}
 use Rattle.image.specs.declared.Refusal.the-variants.{BadLength, BadCheck, BadHead, BadContents}
 use Rattle.image.specs.declared.Verdict.{Verdict}
 use Rattle.image.specs.declared.Verdict.the-variants.{Accepted, Refused}
+use Rattle.image.specs.declared.Wanted.{Wanted}
 use Rattle.image.proofs.Below.{below-at}
 use Rattle.image.proofs.Laid.{pages-length, pages-part}
 use Rattle.image.proofs.Walk.{rows-equal}
 use Rattle.image.proofs.Puts.{image-pages}
 use Rattle.image.proofs.Judged.{Long, long, rows-in-pages}
-use Rattle.image.proofs.Zeros.{zeros-are, cleared-own}
+use Rattle.image.proofs.Zeros.{cleared-own}
 
 -- ---- what acceptance says, test by test
 
@@ -49,14 +51,16 @@ pub record Kept (image : List ℕ) : Type 0 where
   pub heads : headsKeep image (countOf image) (headerOf image) ≡ true
   pub contents : contentsKeep image (countOf image) (headerOf image) ≡ true
 
-pub kept : (image : List ℕ) → verdictOf image ≡ Accepted → Kept image
-unfolding verdictOf
-kept image e =
+pub kept : (wanted : Wanted) (image : List ℕ) → verdictIn wanted image ≡ Accepted → Kept image × (welcome wanted (versionOf image) ≡ true)
+unfolding verdictIn
+kept wanted image e =
     let a = accepted-if (lengthKeeps image) _ BadLength e in
     let b = accepted-if (checksKeep image (countOf image)) _ BadCheck (a .1) in
-    let c = accepted-if (headsKeep image (countOf image) (headerOf image)) _ BadHead (b .1) in
-    let d = accepted-if (contentsKeep image (countOf image) (headerOf image)) Accepted BadContents (c .1) in
-    record { size = long image (a .0); checks = b .0; heads = c .0; contents = d .0 }
+    let c = accepted-if (headsKeep image (countOf image) (headerOf image) && welcome wanted (versionOf image)) _ BadHead (b .1) in
+    let d = accepted-if (contentsKeep image (countOf image) (headerOf image)) Accepted BadContents (c .1) in (
+      record { size = long image (a .0); checks = b .0; heads = both-left _ (welcome wanted (versionOf image)) (c .0); contents = d .0 },
+      both-right (headsKeep image (countOf image) (headerOf image)) _ (c .0),
+    )
 
 -- a byte for "known" that is 0 or 1
 flag-byte : (b : ℕ) → b ≤ 1 → flag (eqb b 1) ≡ b
@@ -69,7 +73,7 @@ few-rows : (rows count : ℕ) → blocksFor rows ≡ count → count ≤ mostBlo
 unfolding blocksFor pagesFor
 few-rows rows count e f = omega arith
 
-pages-are : (rows count : ℕ) → blocksFor rows ≡ count → count - 1 ≡ pagesFor rows
+pub pages-are : (rows count : ℕ) → blocksFor rows ≡ count → count - 1 ≡ pagesFor rows
 unfolding blocksFor
 pages-are rows count e = omega arith
 
@@ -92,14 +96,18 @@ module _ (image : List ℕ) (k : Kept image) where
   unfolding slotsKeep
   count-is = eqb-true _ _ (both-left _ _ slots-good)
 
-  past-count : rowsKeep (headerOf image .board .rows) (pages image firstPage blockSize (countOf image - 1))
+  past-count : rowsKeep (versionOf image) (headerOf image .board .rows) (pages image firstPage blockSize (countOf image - 1))
       && every isZero (drop (rowAt (headerOf image .board .rows)) (pages image firstPage blockSize (countOf image - 1))) ≡ true
   unfolding slotsKeep
   past-count = both-right (eqb (blocksFor (headerOf image .board .rows)) (countOf image)) _ slots-good
 
   pub next-good : numberInRange (headerOf image .next) ≡ true
   unfolding headsKeep
-  next-good = both-left _ _ (k .heads)
+  next-good = both-left _ _ (both-left _ _ (k .heads))
+
+  pub version-good : versionFits (versionOf image) (headerOf image .board .rows) ≡ true
+  unfolding headsKeep
+  version-good = both-right (numberInRange (headerOf image .next)) _ (both-left _ _ (k .heads))
 
   pub rows-few : headerOf image .board .rows ≤ mostRows
   rows-few = few-rows (headerOf image .board .rows) (countOf image) count-is (k .size .few)
@@ -107,10 +115,10 @@ module _ (image : List ℕ) (k : Kept image) where
   -- ---- heads and checks
 
   pub head-at : (i : ℕ) → i < countOf image
-      → headAt image (i * blockSize) ≡ headFor (countOf image) (headerOf image .board .rows) (headerOf image .next) i
+      → headAt image (i * blockSize) ≡ headFor (countOf image) (versionOf image) (headerOf image .next) i
   unfolding headsKeep headKeeps
   head-at i f =
-      head-is _ _ (below-at (headKeeps image (countOf image) (headerOf image)) (countOf image) i (both-right (numberInRange (headerOf image .next)) _ (k .heads)) f)
+      head-is _ _ (below-at (headKeeps image (countOf image) (headerOf image)) (countOf image) i (both-right (numberInRange (headerOf image .next) && versionFits (versionOf image) (headerOf image .board .rows)) _ (k .heads)) f)
 
   check-at : (i : ℕ) → i < countOf image → checkKeeps image (i * blockSize) ≡ true
   unfolding checksKeep
@@ -118,17 +126,17 @@ module _ (image : List ℕ) (k : Kept image) where
 
   -- ---- the pages
 
-  within : PagesIn image firstPage blockSize (countOf image - 1)
+  pub within : PagesIn image firstPage blockSize (countOf image - 1)
   within = image-pages image (countOf image - 1) (omega (arith, k .size .least, k .size .whole))
 
   all-length : length (pages image firstPage blockSize (countOf image - 1)) ≡ (countOf image - 1) * bodySize
   all-length = pages-length image firstPage blockSize (countOf image - 1) within
 
-  pub memory-length : length (memoryOf image) ≡ tableSize
-  unfolding memoryOf
-  memory-length = rw (length-append, all-length, length-replicate) (omega (arith, k .size .few))
+  pub rows-length : length (rowsOf image) ≡ tableSize
+  unfolding rowsOf
+  rows-length = rw (length-append, all-length, length-replicate) (omega (arith, k .size .few))
 
-  rows-inside : rowAt (headerOf image .board .rows) ≤ (countOf image - 1) * bodySize
+  pub rows-inside : rowAt (headerOf image .board .rows) ≤ (countOf image - 1) * bodySize
   rows-inside = rw (pages-are (headerOf image .board .rows) (countOf image) count-is) (rows-in-pages (headerOf image .board .rows))
 
   spare-again : drop (rowAt (headerOf image .board .rows)) (pages image firstPage blockSize (countOf image - 1))
@@ -137,43 +145,43 @@ module _ (image : List ℕ) (k : Kept image) where
       let all = pages image firstPage blockSize (countOf image - 1) in
       let taken = rowAt (headerOf image .board .rows) in
       let d : length (drop taken all) ≡ (countOf image - 1) * bodySize - taken = length-drop taken all ∙ ap (λ (n : ℕ). n - taken) all-length in
-      zeros-are _ (both-right (rowsKeep (headerOf image .board .rows) all) _ past-count) ∙ ap (λ (n : ℕ). replicate n 0) d
+      zeros-are _ (both-right (rowsKeep (versionOf image) (headerOf image .board .rows) all) _ past-count) ∙ ap (λ (n : ℕ). replicate n 0) d
 
   -- past the rows the memory is zero
-  pub memory-blank : drop (rowAt (headerOf image .board .rows)) (memoryOf image) ≡ replicate (tableSize - rowAt (headerOf image .board .rows)) 0
-  unfolding memoryOf
-  memory-blank =
+  pub rows-blank : drop (rowAt (headerOf image .board .rows)) (rowsOf image) ≡ replicate (tableSize - rowAt (headerOf image .board .rows)) 0
+  unfolding rowsOf
+  rows-blank =
       let i = rows-inside in
       let s = k .size .few in
       let a : (countOf image - 1) * bodySize - rowAt (headerOf image .board .rows) + (tableSize - (countOf image - 1) * bodySize) ≡ tableSize - rowAt (headerOf image .board .rows) = omega arith in
       drop-append-le (rowAt (headerOf image .board .rows)) (pages image firstPage blockSize (countOf image - 1)) _ (omega (arith, all-length))
       ∙ rw (spare-again, replicate-append-replicate ((countOf image - 1) * bodySize - rowAt (headerOf image .board .rows)) (tableSize - (countOf image - 1) * bodySize) zero, a)
 
-  memory-start : (at n : ℕ) → at + n ≤ (countOf image - 1) * bodySize → part (memoryOf image) at n ≡ part (pages image firstPage blockSize (countOf image - 1)) at n
-  unfolding memoryOf
+  pub memory-start : (at n : ℕ) → at + n ≤ (countOf image - 1) * bodySize → part (rowsOf image) at n ≡ part (pages image firstPage blockSize (countOf image - 1)) at n
+  unfolding rowsOf
   memory-start at n f = part-first (pages image firstPage blockSize (countOf image - 1)) _ at n (omega (arith, all-length))
 
-  page-again : (i : ℕ) → suc i < countOf image → pageOf (headerOf image .board .rows) (memoryOf image) i ≡ part image (suc i * blockSize + headSize) bodySize
+  page-again : (i : ℕ) → suc i < countOf image → pageOf (headerOf image .board .rows) (rowsOf image) i ≡ part image (suc i * blockSize + headSize) bodySize
   unfolding pageOf
   page-again i f =
       let a : firstPage + i * blockSize + 0 ≡ suc i * blockSize + headSize = omega arith in
-      rw (cleared-own (headerOf image .board .rows) (memoryOf image) memory-blank)
+      rw (cleared-own (headerOf image .board .rows) (rowsOf image) rows-blank)
       (memory-start (i * bodySize) bodySize (omega arith)
       ∙ rw add-zero at (pages-part image firstPage blockSize (countOf image - 1) i 0 bodySize within (omega arith) (lit≤ tt)) ∙ rw a)
 
   -- ---- the rules hold of what is restored
 
-  pub rows-again : rowsKeep (headerOf image .board .rows) (memoryOf image) ≡ true
+  pub rows-again : rowsKeep (versionOf image) (headerOf image .board .rows) (rowsOf image) ≡ true
   unfolding row
   rows-again =
-      rows-equal (headerOf image .board .rows) (memoryOf image) (pages image firstPage blockSize (countOf image - 1))
+      rows-equal (versionOf image) (headerOf image .board .rows) (rowsOf image) (pages image firstPage blockSize (countOf image - 1))
       (λ j f. memory-start (rowAt j) rowSize (omega (arith, rows-inside)))
       ∙ both-left _ _ past-count
 
-  pub limits-again : withinLimits (headerOf image) (memoryOf image) ≡ true
+  pub limits-again : withinLimits (headerOf image) (rowsOf image) ≡ true
   unfolding withinLimits fits
   limits-again =
-      rw (eq-eqb (length (memoryOf image)) tableSize memory-length, le-leb (headerOf image .board .rows) mostRows rows-few) next-good
+      rw (eq-eqb (length (rowsOf image)) tableSize rows-length, le-leb (headerOf image .board .rows) mostRows rows-few) next-good
 
   -- ---- the bytes
 
@@ -207,25 +215,25 @@ module _ (image : List ℕ) (k : Kept image) where
 
     -- ---- the blocks
 
-    body-again : (i : ℕ) → i < countOf image → bodyOf (headerOf image) (memoryOf image) i ≡ part image (i * blockSize + headSize) bodySize
+    body-again : (i : ℕ) → i < countOf image → bodyOf (headerOf image) (rowsOf image) i ≡ part image (i * blockSize + headSize) bodySize
     unfolding bodyOf
     body-again zero f = first-again
     body-again (suc i) f = page-again i f
 
-    block-same : (i : ℕ) → i < countOf image → savedBlock (headerOf image) (memoryOf image) i ≡ part image (i * blockSize) blockSize
+    block-same : (i : ℕ) → i < countOf image → savedBlock (versionOf image) (headerOf image) (rowsOf image) i ≡ part image (i * blockSize) blockSize
     unfolding savedBlock
     block-same i f =
         rw (count-is, ← head-at i f, body-again i f)
         (block-again image (i * blockSize) bytes (omega (arith, k .size .whole)) (check-at i f))
 
-    blocks-same : (n : ℕ) → n ≤ countOf image → blocks (headerOf image) (memoryOf image) n ≡ part image 0 (n * blockSize)
+    blocks-same : (n : ℕ) → n ≤ countOf image → blocks (versionOf image) (headerOf image) (rowsOf image) n ≡ part image 0 (n * blockSize)
     unfolding blocks
     blocks-same zero f = sym (part-none _ _)
     blocks-same (suc n) f =
         let a : suc n * blockSize ≡ n * blockSize + blockSize = omega arith in
         rw (a, part-split image 0 (n * blockSize) blockSize, zero-add, blocks-same n (omega arith), block-same n (omega arith))
 
-    -- THE IMAGE OF WHAT IS RESTORED IS THE IMAGE
-    pub image-again : imageOf (headerOf image) (memoryOf image) ≡ image
-    unfolding imageOf
+    -- THE IMAGE, IN ITS VERSION, OF WHAT AN IMAGE SAYS IS THE IMAGE
+    pub image-again : imageIn (versionOf image) (headerOf image) (rowsOf image) ≡ image
+    unfolding imageIn
     image-again = rw count-is (blocks-same (countOf image) (omega arith) ∙ rw (k .size .whole) (part-all image))

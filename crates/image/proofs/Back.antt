@@ -19,14 +19,16 @@ use Rattle.block.specs.declared.Head.{Head}
 use Rattle.block.proofs.Joins.{part-first, part-past, part-second}
 use Rattle.block.proofs.Blocks.{same-head, head-read, check-here, body-here}
 use Rattle.row.specs.Fields.{rowSize}
+use Rattle.row.specs.Rules.{newest}
 use Rattle.table.specs.Memory.{mostRows, tableSize, rowAt, row}
 use Rattle.table.specs.Rules.{rowsKeep}
-use Rattle.image.specs.Shape.{pagesFor, blocksFor, mostBlocks, rowsOfVersion1, versionFor, headFor, pages, firstPage}
+use Rattle.image.specs.Shape.{pagesFor, blocksFor, mostBlocks, versionFits, welcome, headFor, pages, firstPage}
 use Rattle.image.specs.Header.{headerKeeps, flag, sessionBytes, boardBytes, factsSize, firstBody, headerOf}
-use Rattle.image.specs.Save.{cleared, pageOf, bodyOf, savedBlock, blocks, imageOf}
-use Rattle.image.specs.Restore.{countOf, lengthKeeps, checksKeep, headKeeps, headsKeep, factsKeep, slotsKeep, contentsKeep, verdictOf, memoryOf}
+use Rattle.image.specs.Save.{cleared, pageOf, bodyOf, savedBlock, blocks, imageIn, imageOf}
+use Rattle.image.specs.Restore.{countOf, lengthKeeps, checksKeep, headKeeps, headsKeep, factsKeep, slotsKeep, contentsKeep, versionOf, verdictIn, rowsOf, renewed, memoryOf}
 use Rattle.image.specs.declared.Header.{Header}
 use Rattle.image.specs.declared.Verdict.the-variants.{Accepted}
+use Rattle.image.specs.declared.Wanted.{Wanted}
 use Rattle.image.proofs.Below.{below-all}
 use Rattle.image.proofs.Walk.{rows-equal}
 use Rattle.image.proofs.Beside.{session-length, board-length}
@@ -41,14 +43,6 @@ pub record HeaderFits (h : Header) : Type 0 where
   pub event : h .board .event < 256
   pub next : h .next < 256 ^ 8
   pub live : h .board .live < 256 ^ 8
-
-version-fits : (rows : ℕ) → versionFor rows < 256 ^ 2
-unfolding versionFor
-version-fits rows = by (leb rows rowsOfVersion1)
-  where
-    by : (b : Bool) → cond b 1 2 < 256 ^ 2
-    by true = lit< tt
-    by false = lit< tt
 
 -- ---- the fields in the body of block 0
 
@@ -99,7 +93,7 @@ flag-back : (b : Bool) → eqb (flag b) 1 ≡ b
 flag-back true = refl
 flag-back false = refl
 
-module _ (h : Header) (mem : List ℕ) (fit : HeaderFits h) (l : length mem ≡ tableSize) (r : h .board .rows ≤ mostRows) where
+module _ (v : ℕ) (small : v < 256 ^ 2) (h : Header) (mem : List ℕ) (fit : HeaderFits h) (l : length mem ≡ tableSize) (r : h .board .rows ≤ mostRows) where
   some : (1 ≤ blocksFor (h .board .rows)) × (blocksFor (h .board .rows) ≡ 1 + pagesFor (h .board .rows))
   unfolding blocksFor
   some = (omega arith, refl)
@@ -109,74 +103,74 @@ module _ (h : Header) (mem : List ℕ) (fit : HeaderFits h) (l : length mem ≡ 
 
   -- ---- each block stands at its place
 
-  pub image-length : length (imageOf h mem) ≡ blocksFor (h .board .rows) * blockSize
-  unfolding imageOf
-  image-length = blocks-length h mem (fit .session) l r (blocksFor (h .board .rows)) (omega arith)
+  pub image-length : length (imageIn v h mem) ≡ blocksFor (h .board .rows) * blockSize
+  unfolding imageIn
+  image-length = blocks-length v h mem (fit .session) l r (blocksFor (h .board .rows)) (omega arith)
 
-  pub image-count : countOf (imageOf h mem) ≡ blocksFor (h .board .rows)
+  pub image-count : countOf (imageIn v h mem) ≡ blocksFor (h .board .rows)
   image-count = omega (arith, image-length)
 
   last-block : (n k : ℕ) → n < blocksFor (h .board .rows) → k < suc n
-      → (k < n → part (blocks h mem n) (k * blockSize) blockSize ≡ savedBlock h mem k)
-      → Dec (k ≡ n) → part (blocks h mem n ++ savedBlock h mem n) (k * blockSize) blockSize ≡ savedBlock h mem k
+      → (k < n → part (blocks v h mem n) (k * blockSize) blockSize ≡ savedBlock v h mem k)
+      → Dec (k ≡ n) → part (blocks v h mem n ++ savedBlock v h mem n) (k * blockSize) blockSize ≡ savedBlock v h mem k
   last-block n k f g rec (yes q) =
       rw q
-      (part-second (blocks h mem n) (savedBlock h mem n) (n * blockSize) blockSize (blocks-length h mem (fit .session) l r n (omega arith))
-      ∙ part-whole (savedBlock h mem n) blockSize (saved-length h mem (fit .session) l r n f))
+      (part-second (blocks v h mem n) (savedBlock v h mem n) (n * blockSize) blockSize (blocks-length v h mem (fit .session) l r n (omega arith))
+      ∙ part-whole (savedBlock v h mem n) blockSize (saved-length v h mem (fit .session) l r n f))
   last-block n k f g rec (no q) =
-      part-first (blocks h mem n) (savedBlock h mem n) (k * blockSize) blockSize (omega (arith, q, blocks-length h mem (fit .session) l r n (omega arith)))
+      part-first (blocks v h mem n) (savedBlock v h mem n) (k * blockSize) blockSize (omega (arith, q, blocks-length v h mem (fit .session) l r n (omega arith)))
       ∙ rec (omega (arith, q))
 
-  blocks-part : (n k : ℕ) → n ≤ blocksFor (h .board .rows) → k < n → part (blocks h mem n) (k * blockSize) blockSize ≡ savedBlock h mem k
+  blocks-part : (n k : ℕ) → n ≤ blocksFor (h .board .rows) → k < n → part (blocks v h mem n) (k * blockSize) blockSize ≡ savedBlock v h mem k
   unfolding blocks
   blocks-part zero k f g = absurd (not-suc-le-zero g)
   blocks-part (suc n) k f g =
       last-block n k f g (λ d. blocks-part n k (omega arith) d) (ℕ-discrete k n)
 
   module _ (k : ℕ) (there : k < blocksFor (h .board .rows)) where
-    image-block : part (imageOf h mem) (k * blockSize) blockSize ≡ savedBlock h mem k
-    unfolding imageOf
+    image-block : part (imageIn v h mem) (k * blockSize) blockSize ≡ savedBlock v h mem k
+    unfolding imageIn
     image-block = blocks-part (blocksFor (h .board .rows)) k (omega arith) there
 
-    pub image-body : (i n : ℕ) → i + n ≤ bodySize → part (imageOf h mem) (k * blockSize + headSize + i) n ≡ part (bodyOf h mem k) i n
+    pub image-body : (i n : ℕ) → i + n ≤ bodySize → part (imageIn v h mem) (k * blockSize + headSize + i) n ≡ part (bodyOf h mem k) i n
     unfolding savedBlock
-    image-body = body-here (imageOf h mem) (k * blockSize) _ (bodyOf h mem k) (body-length h mem (fit .session) l r k there) image-block
+    image-body = body-here (imageIn v h mem) (k * blockSize) _ (bodyOf h mem k) (body-length v h mem (fit .session) l r k there) image-block
 
-    pub image-head : headAt (imageOf h mem) (k * blockSize) ≡ headFor (blocksFor (h .board .rows)) (h .board .rows) (h .next) k
+    pub image-head : headAt (imageIn v h mem) (k * blockSize) ≡ headFor (blocksFor (h .board .rows)) v (h .next) k
     unfolding savedBlock headFor
     image-head =
-        head-read (imageOf h mem) (k * blockSize) _ (bodyOf h mem k) (body-length h mem (fit .session) l r k there) image-block
-        (record { number = omega (arith, few); count = omega (arith, few); version = version-fits (h .board .rows); next = fit .next })
+        head-read (imageIn v h mem) (k * blockSize) _ (bodyOf h mem k) (body-length v h mem (fit .session) l r k there) image-block
+        (record { number = omega (arith, few); count = omega (arith, few); version = small; next = fit .next })
 
-    image-check : checkKeeps (imageOf h mem) (k * blockSize) ≡ true
+    image-check : checkKeeps (imageIn v h mem) (k * blockSize) ≡ true
     unfolding savedBlock
-    image-check = check-here (imageOf h mem) (k * blockSize) _ (bodyOf h mem k) (body-length h mem (fit .session) l r k there) image-block
+    image-check = check-here (imageIn v h mem) (k * blockSize) _ (bodyOf h mem k) (body-length v h mem (fit .session) l r k there) image-block
 
   -- ---- block 0
 
-  image-fact : (i n : ℕ) → i + n ≤ bodySize → part (imageOf h mem) (headSize + i) n ≡ part (firstBody h) i n
+  image-fact : (i n : ℕ) → i + n ≤ bodySize → part (imageIn v h mem) (headSize + i) n ≡ part (firstBody h) i n
   unfolding bodyOf
   image-fact i n e = image-body 0 (some .0) i n e
 
-  number-back : (i n v : ℕ) → i + n ≤ bodySize → part (firstBody h) i n ≡ bytesBe n v → v < 256 ^ n → be (part (imageOf h mem) (headSize + i) n) ≡ v
-  number-back i n v e f b = ap be (image-fact i n e ∙ f) ∙ value-digits 256 (lit< tt) n v b
+  number-back : (i n x : ℕ) → i + n ≤ bodySize → part (firstBody h) i n ≡ bytesBe n x → x < 256 ^ n → be (part (imageIn v h mem) (headSize + i) n) ≡ x
+  number-back i n x e f b = ap be (image-fact i n e ∙ f) ∙ value-digits 256 (lit< tt) n x b
 
-  known-is : be (part (imageOf h mem) 24 1) ≡ flag (h .known)
+  known-is : be (part (imageIn v h mem) 24 1) ≡ flag (h .known)
   known-is = number-back 10 1 (flag (h .known)) (lit≤ tt) (first-known h (fit .session)) (flag-below (h .known))
 
   -- THE HEADER COMES BACK
-  pub header-back : headerOf (imageOf h mem) ≡ h
+  pub header-back : headerOf (imageIn v h mem) ≡ h
   unfolding headerOf headFor
   header-back =
-      let a : part (imageOf h mem) 14 10 ≡ h .session = image-fact 0 10 (lit≤ tt) ∙ first-session h (fit .session) in
-      let b : eqb (be (part (imageOf h mem) 24 1)) 1 ≡ h .known = rw known-is (flag-back (h .known)) in
-      let d : headAt (imageOf h mem) 0 .next ≡ h .next = ap (λ (g : Head). g .next) (image-head 0 (some .0)) in
-      let e : be (part (imageOf h mem) 25 1) ≡ h .board .event = number-back 11 1 (h .board .event) (lit≤ tt) (first-event h (fit .session)) (fit .event) in
-      let f : be (part (imageOf h mem) 26 2) ≡ h .board .rows = number-back 12 2 (h .board .rows) (lit≤ tt) (first-rows h (fit .session)) (omega arith) in
-      let g : be (part (imageOf h mem) 28 8) ≡ h .board .live = number-back 14 8 (h .board .live) (lit≤ tt) (first-live h (fit .session)) (fit .live) in
+      let a : part (imageIn v h mem) 14 10 ≡ h .session = image-fact 0 10 (lit≤ tt) ∙ first-session h (fit .session) in
+      let b : eqb (be (part (imageIn v h mem) 24 1)) 1 ≡ h .known = rw known-is (flag-back (h .known)) in
+      let d : headAt (imageIn v h mem) 0 .next ≡ h .next = ap (λ (g : Head). g .next) (image-head 0 (some .0)) in
+      let e : be (part (imageIn v h mem) 25 1) ≡ h .board .event = number-back 11 1 (h .board .event) (lit≤ tt) (first-event h (fit .session)) (fit .event) in
+      let f : be (part (imageIn v h mem) 26 2) ≡ h .board .rows = number-back 12 2 (h .board .rows) (lit≤ tt) (first-rows h (fit .session)) (omega arith) in
+      let g : be (part (imageIn v h mem) 28 8) ≡ h .board .live = number-back 14 8 (h .board .live) (lit≤ tt) (first-live h (fit .session)) (fit .live) in
       λ i. record { session = a i; known = b i; next = d i; board = record { rows = f i; event = e i; live = g i } }
 
-  facts-back : factsKeep (imageOf h mem) ≡ true
+  facts-back : factsKeep (imageIn v h mem) ≡ true
   unfolding factsKeep
   facts-back =
       rw (known-is, flag-small (h .known), image-fact factsSize (bodySize - factsSize) (lit≤ tt), first-zeros h (fit .session))
@@ -185,7 +179,7 @@ module _ (h : Header) (mem : List ℕ) (fit : HeaderFits h) (l : length mem ≡ 
   -- ---- the pages
 
   image-page : (n : ℕ) → suc n < blocksFor (h .board .rows)
-      → part (imageOf h mem) (firstPage + n * blockSize) bodySize ≡ part (cleared (h .board .rows) mem) (n * bodySize) bodySize
+      → part (imageIn v h mem) (firstPage + n * blockSize) bodySize ≡ part (cleared (h .board .rows) mem) (n * bodySize) bodySize
   unfolding bodyOf pageOf
   image-page n f =
       let a : firstPage + n * blockSize ≡ suc n * blockSize + headSize + 0 = omega arith in
@@ -193,7 +187,7 @@ module _ (h : Header) (mem : List ℕ) (fit : HeaderFits h) (l : length mem ≡ 
       ∙ part-part (cleared (h .board .rows) mem) (n * bodySize) bodySize 0 bodySize (lit≤ tt) ∙ rw add-zero
 
   image-pages : (n : ℕ) → n < blocksFor (h .board .rows)
-      → pages (imageOf h mem) firstPage blockSize n ≡ part (cleared (h .board .rows) mem) 0 (n * bodySize)
+      → pages (imageIn v h mem) firstPage blockSize n ≡ part (cleared (h .board .rows) mem) 0 (n * bodySize)
   unfolding pages
   image-pages zero f = sym (part-none _ _)
   image-pages (suc n) f =
@@ -204,22 +198,27 @@ module _ (h : Header) (mem : List ℕ) (fit : HeaderFits h) (l : length mem ≡ 
   ends : (rowAt (h .board .rows) ≤ pagesFor (h .board .rows) * bodySize) × (pagesFor (h .board .rows) * bodySize ≤ tableSize)
   ends = (rows-in-pages (h .board .rows), omega (arith, few, some))
 
-  all-pages : pages (imageOf h mem) firstPage blockSize (blocksFor (h .board .rows) - 1) ≡ part (cleared (h .board .rows) mem) 0 (pagesFor (h .board .rows) * bodySize)
+  all-pages : pages (imageIn v h mem) firstPage blockSize (blocksFor (h .board .rows) - 1) ≡ part (cleared (h .board .rows) mem) 0 (pagesFor (h .board .rows) * bodySize)
   all-pages =
       let a : blocksFor (h .board .rows) - 1 ≡ pagesFor (h .board .rows) = omega (arith, some) in
       rw a (image-pages (pagesFor (h .board .rows)) (omega (arith, some)))
 
+  -- THE VERSION COMES BACK
+  pub version-back : versionOf (imageIn v h mem) ≡ v
+  unfolding versionOf headFor
+  version-back = ap (λ (g : Head). g .version) (image-head 0 (some .0))
+
   -- THE ROWS COME BACK, AND ZEROS PAST THEM
-  pub memory-back : memoryOf (imageOf h mem) ≡ cleared (h .board .rows) mem
-  unfolding memoryOf
-  memory-back =
+  pub rows-of-back : rowsOf (imageIn v h mem) ≡ cleared (h .board .rows) mem
+  unfolding rowsOf
+  rows-of-back =
       let a : blocksFor (h .board .rows) - 1 ≡ pagesFor (h .board .rows) = omega (arith, some) in
       rw (image-count, all-pages, a) (cleared-whole (h .board .rows) mem l r (pagesFor (h .board .rows) * bodySize) (ends .0) (ends .1))
 
-  rows-back : rowsKeep (h .board .rows) (part (cleared (h .board .rows) mem) 0 (pagesFor (h .board .rows) * bodySize)) ≡ rowsKeep (h .board .rows) mem
+  rows-back : rowsKeep v (h .board .rows) (part (cleared (h .board .rows) mem) 0 (pagesFor (h .board .rows) * bodySize)) ≡ rowsKeep v (h .board .rows) mem
   unfolding row
   rows-back =
-      rows-equal (h .board .rows) _ mem
+      rows-equal v (h .board .rows) _ mem
       (λ j f. row-start (cleared (h .board .rows) mem) j (pagesFor (h .board .rows) * bodySize) (omega (arith, ends))
       ∙ cleared-start (h .board .rows) mem l r (rowAt j) rowSize (omega arith))
 
@@ -231,34 +230,39 @@ module _ (h : Header) (mem : List ℕ) (fit : HeaderFits h) (l : length mem ≡ 
 
   -- ---- the rules, one after the other
 
-  module _ (inRange : numberInRange (h .next) ≡ true) (good : headerKeeps h ≡ true) (kept : rowsKeep (h .board .rows) mem ≡ true) where
-    length-good : lengthKeeps (imageOf h mem) ≡ true
+  module _ (inRange : numberInRange (h .next) ≡ true) (fits : versionFits v (h .board .rows) ≡ true) (good : headerKeeps h ≡ true) (kept : rowsKeep v (h .board .rows) mem ≡ true) where
+    length-good : lengthKeeps (imageIn v h mem) ≡ true
     unfolding lengthKeeps
     length-good =
         rw (
           image-count,
-          eq-eqb (length (imageOf h mem) % blockSize) 0 (omega (arith, image-length)),
+          eq-eqb (length (imageIn v h mem) % blockSize) 0 (omega (arith, image-length)),
           le-leb 1 (blocksFor (h .board .rows)) (some .0),
           le-leb (blocksFor (h .board .rows)) mostBlocks few,
         )
 
-    checks-good : checksKeep (imageOf h mem) (blocksFor (h .board .rows)) ≡ true
+    checks-good : checksKeep (imageIn v h mem) (blocksFor (h .board .rows)) ≡ true
     unfolding checksKeep
     checks-good = below-all _ (blocksFor (h .board .rows)) image-check
 
-    heads-good : headsKeep (imageOf h mem) (blocksFor (h .board .rows)) h ≡ true
+    heads-good : headsKeep (imageIn v h mem) (blocksFor (h .board .rows)) h ≡ true
     unfolding headsKeep headKeeps
     heads-good =
-        rw inRange
-        (below-all (headKeeps (imageOf h mem) (blocksFor (h .board .rows)) h) (blocksFor (h .board .rows)) (λ k f. rw (image-head k f) (same-head _)))
+        rw (inRange, version-back, fits)
+        (below-all (headKeeps (imageIn v h mem) (blocksFor (h .board .rows)) h) (blocksFor (h .board .rows)) (λ k f. rw (image-head k f, version-back) (same-head _)))
 
-    slots-good : slotsKeep (imageOf h mem) (blocksFor (h .board .rows)) (h .board .rows) ≡ true
+    slots-good : slotsKeep (imageIn v h mem) (blocksFor (h .board .rows)) (h .board .rows) ≡ true
     unfolding slotsKeep
     slots-good =
-        rw (eq-eqb (blocksFor (h .board .rows)) _ refl, all-pages, rows-back, kept, spare-back)
+        rw (eq-eqb (blocksFor (h .board .rows)) _ refl, all-pages, version-back, rows-back, kept, spare-back)
         (zeros-pass (pagesFor (h .board .rows) * bodySize - rowAt (h .board .rows)))
 
     -- THE IMAGE OF A TABLE IS ACCEPTED
-    pub image-accepted : verdictOf (imageOf h mem) ≡ Accepted
-    unfolding verdictOf contentsKeep
-    image-accepted = rw (length-good, image-count, checks-good, header-back, heads-good, facts-back, good, slots-good)
+    pub image-accepted : (wanted : Wanted) → welcome wanted v ≡ true → verdictIn wanted (imageIn v h mem) ≡ Accepted
+    unfolding verdictIn contentsKeep
+    image-accepted wanted w = rw (length-good, image-count, checks-good, header-back, heads-good, version-back, w, facts-back, good, slots-good)
+
+-- AN IMAGE OF VERSION 3 IS RESTORED AS IT STANDS
+pub memory-back : (h : Header) (mem : List ℕ) → HeaderFits h → length mem ≡ tableSize → h .board .rows ≤ mostRows → memoryOf (imageOf h mem) ≡ cleared (h .board .rows) mem
+unfolding memoryOf renewed
+memory-back h mem fit l r = rw (version-back newest (lit< tt) h mem fit l r) (rows-of-back newest (lit< tt) h mem fit l r)

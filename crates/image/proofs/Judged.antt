@@ -1,7 +1,7 @@
 -- The tests of an image, in the order of checking.
 -- Assumes nothing.
 use mathlib.Core.Path.{_≡_, refl, sym, ap, _∙_}
-use mathlib.Core.Bool.{Bool, true, false, _&&_, not}
+use mathlib.Core.Bool.{Bool, true, false, _&&_, _||_, not}
 use mathlib.Core.List.{List}
 use Prim.Native.Nat.{ℕ, _+_, _-_, _*_, _%_, _≤_, _<_}
 use native.Mathlib.Nat.{zero-add}
@@ -9,7 +9,7 @@ use native.Mathlib.Decide.{ℕ-discrete}
 use native.Mathlib.Omega.{arith}
 use lib.Dec.{eqb, leb}
 use lib.ListN.{length, drop}
-use borrow.Author.Tests.{eq-eqb, ne-eqb, eqb-true, leb-true}
+use borrow.Author.Tests.{eq-eqb, ne-eqb, eqb-true, leb-true, le-leb, lt-leb}
 use Rattle.field.specs.Bytes.{part, Bytes}
 use Rattle.field.specs.Limits.{numberInRange}
 use Rattle.field.specs.Text.{every, isZero}
@@ -19,14 +19,17 @@ use Rattle.field.proofs.Numbers.{part-below}
 use Rattle.block.specs.Block.{blockSize, bodySize, headAt, sameHead, checkKeeps}
 use Rattle.block.specs.declared.Head.{Head}
 use Rattle.row.specs.Fields.{rowSize}
+use Rattle.row.specs.Rules.{newest}
 use Rattle.table.specs.Memory.{mostRows, rowAt}
 use Rattle.table.specs.Rules.{rowsKeep}
-use Rattle.image.specs.Shape.{pagesFor, blocksFor, mostBlocks, pages, firstPage, PagesIn, allBelow, versionFor, headFor}
+use Rattle.image.specs.Shape.{rowsOfVersion1, oldVersion, pagesFor, blocksFor, mostBlocks, pages, firstPage, PagesIn, allBelow, versionFits, welcome, headFor}
 use Rattle.image.specs.Header.{headerOf}
-use Rattle.image.specs.Restore.{countOf, lengthKeeps, checksKeep, headKeeps, headsKeep, slotsKeep, contentsKeep, verdictOf}
+use Rattle.image.specs.Restore.{countOf, lengthKeeps, checksKeep, headKeeps, headsKeep, versionOf, slotsKeep, contentsKeep, verdictIn}
 use Rattle.image.specs.declared.Header.{Header}
 use Rattle.image.specs.declared.Refusal.the-variants.{BadLength, BadCheck, BadHead, BadContents}
 use Rattle.image.specs.declared.Verdict.the-variants.{Accepted, Refused}
+use Rattle.image.specs.declared.Wanted.{Wanted}
+use Rattle.image.specs.declared.Wanted.the-variants.{Older, Newest}
 use Rattle.image.proofs.Below.{was-no, was-yes, below-none, below-turn, below-stop, below-end}
 use Rattle.image.proofs.Laid.{pages-length, pages-part}
 use Rattle.image.proofs.Puts.{image-pages}
@@ -61,16 +64,20 @@ checks-end image count k h g e = below-end (λ j. checkKeeps image (j * blockSiz
 
 -- ---- the heads
 
-pub head-made : (count rows next k : ℕ) {v : ℕ} → v ≡ versionFor rows → record { number = k; count = count; version = v; next = next } ≡ headFor count rows next k
+pub head-made : (count version next k : ℕ) → record { number = k; count = count; version = version; next = next } ≡ headFor count version next k
 unfolding headFor
-head-made count rows next k e i = record { number = k; count = count; version = e i; next = next }
+head-made count version next k = refl
 
-pub head-keeps : (image : List ℕ) (count : ℕ) (h : Header) (k : ℕ) {there wanted : Head} {r : Bool} → there ≡ headAt image (k * blockSize)
-    → wanted ≡ headFor count (h .board .rows) (h .next) k → r ≡ sameHead there wanted → r ≡ headKeeps image count h k
+pub head-keeps : (image : List ℕ) (count : ℕ) (h : Header) (k : ℕ) {v : ℕ} {there wanted : Head} {r : Bool} → v ≡ versionOf image → there ≡ headAt image (k * blockSize)
+    → wanted ≡ headFor count v (h .next) k → r ≡ sameHead there wanted → r ≡ headKeeps image count h k
 unfolding headKeeps
-head-keeps image count h k e f g = g ∙ rw (e, f)
+head-keeps image count h k i e f g = g ∙ rw (e, f, i)
 
-module _ (image : List ℕ) (count : ℕ) (h : Header) {r : Bool} (e : r ≡ numberInRange (h .next)) where
+pub head-fits : (image : List ℕ) (h : Header) {v : ℕ} {a b : Bool} → v ≡ versionOf image → a ≡ numberInRange (h .next) → b ≡ versionFits v (h .board .rows)
+    → a && b ≡ numberInRange (h .next) && versionFits (versionOf image) (h .board .rows)
+head-fits image h i e f = rw (e, f, i)
+
+module _ (image : List ℕ) (count : ℕ) (h : Header) {r : Bool} (e : r ≡ numberInRange (h .next) && versionFits (versionOf image) (h .board .rows)) where
   pub heads-range : not r ≡ true → false ≡ headsKeep image count h
   unfolding headsKeep
   heads-range n = and-no _ e n
@@ -87,6 +94,30 @@ module _ (image : List ℕ) (count : ℕ) (h : Header) {r : Bool} (e : r ≡ num
 pub heads-on : (image : List ℕ) (count : ℕ) (h : Header) (k : ℕ) {q : Bool} → q ≡ headKeeps image count h k → not q ≡ false
     → allBelow (headKeeps image count h) k ≡ true → allBelow (headKeeps image count h) (k + 1) ≡ true
 heads-on image count h k f n a = below-turn (headKeeps image count h) k a (was-yes f n)
+
+-- ---- the version
+
+pub version-read : (image : List ℕ) {head : Head} → head ≡ headAt image 0 → head .version ≡ versionOf image
+unfolding versionOf
+version-read image e = ap (λ (h : Head). h .version) e
+
+pub welcome-older : (version : ℕ) {wanted : Wanted} → wanted ≡ Older → not (eqb version newest) ≡ welcome wanted version
+welcome-older version e = rw e
+
+pub welcome-newest : (version : ℕ) {wanted : Wanted} → wanted ≡ Newest → eqb version newest ≡ welcome wanted version
+welcome-newest version e = rw e
+
+pub old-first : (rows : ℕ) → rows ≤ rowsOfVersion1 → 1 ≡ oldVersion rows
+unfolding oldVersion
+old-first rows h = rw (le-leb rows rowsOfVersion1 h)
+
+pub old-second : (rows : ℕ) → rowsOfVersion1 < rows → 2 ≡ oldVersion rows
+unfolding oldVersion
+old-second rows h = rw (lt-leb rows rowsOfVersion1 h)
+
+pub fits-read : (version rows : ℕ) {v : ℕ} → v ≡ oldVersion rows → eqb version newest || eqb version v ≡ versionFits version rows
+unfolding versionFits
+fits-read version rows e = rw e
 
 -- ---- the slots
 
@@ -145,7 +176,10 @@ module _ (image : List ℕ) (rows count w : ℕ) (ew : w ≡ blocksFor rows) whe
     pub slots-rows : rows * rowSize ≤ (count - 1) * bodySize
     slots-rows = rw pages-are (rows-in-pages rows)
 
-    module _ {r : Bool} (er : r ≡ rowsKeep rows (pages image firstPage blockSize (pagesFor rows))) where
+    module _ {v : ℕ} (iv : v ≡ versionOf image) {r : Bool} (er₀ : r ≡ rowsKeep v rows (pages image firstPage blockSize (pagesFor rows))) where
+      er : r ≡ rowsKeep (versionOf image) rows (pages image firstPage blockSize (pagesFor rows))
+      er = er₀ ∙ rw iv
+
       pub slots-broken : not r ≡ true → false ≡ slotsKeep image count rows
       unfolding slotsKeep
       slots-broken n = rw (← ew, eq-eqb w count fit, pages-are) (and-no _ er n)
@@ -175,9 +209,9 @@ long image e =
     let d : countOf image ≤ mostBlocks = leb-true (countOf image) mostBlocks (both-right (leb 1 (countOf image)) _ r) in
     record { some = omega arith; few = d; whole = omega arith; least = b }
 
-module _ (image : List ℕ) {r : Bool} (er : r ≡ lengthKeeps image) where
-  pub judge-length : not r ≡ true → Refused BadLength ≡ verdictOf image
-  unfolding verdictOf
+module _ (image : List ℕ) (wanted : Wanted) {r : Bool} (er : r ≡ lengthKeeps image) where
+  pub judge-length : not r ≡ true → Refused BadLength ≡ verdictIn wanted image
+  unfolding verdictIn
   judge-length n = simp (was-no er n)
 
   module _ (yes-r : not r ≡ false) where
@@ -185,22 +219,25 @@ module _ (image : List ℕ) {r : Bool} (er : r ≡ lengthKeeps image) where
     judge-long = long image (was-yes er yes-r)
 
     module _ {q : Bool} (eq : q ≡ checksKeep image (countOf image)) where
-      pub judge-check : not q ≡ true → Refused BadCheck ≡ verdictOf image
-      unfolding verdictOf
+      pub judge-check : not q ≡ true → Refused BadCheck ≡ verdictIn wanted image
+      unfolding verdictIn
       judge-check n = simp (was-yes er yes-r, was-no eq n)
 
-      module _ (yes-q : not q ≡ false) (h : Header) (eh : h ≡ headerOf image) {w : Bool} (ew : w ≡ headsKeep image (countOf image) h) where
-        pub judge-head : not w ≡ true → Refused BadHead ≡ verdictOf image
-        unfolding verdictOf
+      module _ (yes-q : not q ≡ false) (h : Header) (eh : h ≡ headerOf image) {w : Bool} (ew₀ : w ≡ headsKeep image (countOf image) h) {v′ : ℕ} {u : Bool} (iv : v′ ≡ versionOf image) (eu : u ≡ welcome wanted v′) where
+        ew : w && u ≡ headsKeep image (countOf image) h && welcome wanted (versionOf image)
+        ew = rw (ew₀, eu, iv)
+
+        pub judge-head : not (w && u) ≡ true → Refused BadHead ≡ verdictIn wanted image
+        unfolding verdictIn
         judge-head n = simp (was-yes er yes-r, was-yes eq yes-q, ← eh, was-no ew n)
 
-        module _ (yes-w : not w ≡ false) {v : Bool} (ev : v ≡ contentsKeep image (countOf image) h) where
-          pub judge-contents : not v ≡ true → Refused BadContents ≡ verdictOf image
-          unfolding verdictOf
+        module _ (yes-w : not (w && u) ≡ false) {v : Bool} (ev : v ≡ contentsKeep image (countOf image) h) where
+          pub judge-contents : not v ≡ true → Refused BadContents ≡ verdictIn wanted image
+          unfolding verdictIn
           judge-contents n = simp (was-yes er yes-r, was-yes eq yes-q, ← eh, was-yes ew yes-w, was-no ev n)
 
-          pub judge-accepts : not v ≡ false → Accepted ≡ verdictOf image
-          unfolding verdictOf
+          pub judge-accepts : not v ≡ false → Accepted ≡ verdictIn wanted image
+          unfolding verdictIn
           judge-accepts n = simp (was-yes er yes-r, was-yes eq yes-q, ← eh, was-yes ew yes-w, was-yes ev n)
 
 -- two bytes of an image say at most 65,535 rows

@@ -9,8 +9,13 @@ pub mod Ways
 pub mod Zeros
 pub mod Back
 pub mod Again
+pub mod Steps
+pub mod Renewed
 pub mod Rounds
+pub mod Moved
+pub mod Writes
+pub mod Calls
 pub mod Verdicts
+pub mod Before
 pub mod Made
 pub mod Fresh
-pub mod Before

@@ -74,5 +74,5 @@ module _ (h : Header) (l : Memories) (made : Made (h .board) l) (next : numberIn
   pub made-restored : length (h .session) ≡ 10 → (old : List ℕ) → length old ≡ tableSize
       → restoreOf (part (overlay out 0 (imageOf h (l .table))) 0 (sizeFor (h .board .rows))) old ≡ restoring (restored Accepted h) (l .table)
   made-restored ten old k =
-      saved-restored h (l .table) out old _ _ ten k made-saved
+      saved-restored h (l .table) out _ _ ten made-saved old k
       ∙ ap (restoring (restored Accepted h)) (sound-cleared h (l .table) (made-sound (h .board) l made .0) next (made-board (h .board) l made) known)

@@ -16,7 +16,7 @@ use Rattle.block.proofs.Blocks.{block-length, block-put}
 use Rattle.table.specs.Memory.{mostRows, tableSize, rowAt}
 use Rattle.image.specs.Shape.{pageRows, pagesFor, blocksFor, mostBlocks, headFor, pages, PagesIn, firstPage}
 use Rattle.image.specs.Header.{firstBody}
-use Rattle.image.specs.Save.{cleared, pageOf, bodyOf, savedBlock, blocks, imageOf}
+use Rattle.image.specs.Save.{cleared, pageOf, bodyOf, savedBlock, blocks, imageIn}
 use Rattle.image.specs.declared.Header.{Header}
 use Rattle.image.proofs.Laid.{page-row, pages-length}
 use Rattle.image.proofs.Beside.{first-length}
@@ -83,7 +83,7 @@ pub page-there : (rows k : ℕ) → (k ≡ 0 → ⊥) → k < blocksFor rows →
 unfolding blocksFor
 page-there rows k z f = omega (arith, z)
 
-module _ (h : Header) (mem : List ℕ) where
+module _ (v : ℕ) (h : Header) (mem : List ℕ) where
   pub body-first : (xs : List ℕ) (at k : ℕ) {zs : List ℕ} → k ≡ 0 → zs ≡ overlay xs at (firstBody h) → zs ≡ overlay xs at (bodyOf h mem k)
   unfolding bodyOf
   body-first xs at k z e = e ∙ rw z
@@ -101,41 +101,41 @@ module _ (h : Header) (mem : List ℕ) where
     body-length zero f = first-length h s
     body-length (suc k) f = page-length (h .board .rows) mem l r k (omega arith)
 
-    pub saved-length : (k : ℕ) → k < blocksFor (h .board .rows) → length (savedBlock h mem k) ≡ blockSize
+    pub saved-length : (k : ℕ) → k < blocksFor (h .board .rows) → length (savedBlock v h mem k) ≡ blockSize
     unfolding savedBlock
     saved-length k f = block-length _ (bodyOf h mem k) (body-length k f)
 
-    pub blocks-length : (k : ℕ) → k ≤ blocksFor (h .board .rows) → length (blocks h mem k) ≡ k * blockSize
+    pub blocks-length : (k : ℕ) → k ≤ blocksFor (h .board .rows) → length (blocks v h mem k) ≡ k * blockSize
     unfolding blocks
     blocks-length zero f = refl
     blocks-length (suc k) f =
         rw (length-append, blocks-length k (omega arith), saved-length k (omega arith)) (omega arith)
 
     pub saved-put : (xs : List ℕ) (k count : ℕ) {head : Head} {us vs zs : List ℕ} → k * blockSize + blockSize ≤ length xs
-        → count ≡ blocksFor (h .board .rows) → k < count → head ≡ headFor count (h .board .rows) (h .next) k
+        → count ≡ blocksFor (h .board .rows) → k < count → head ≡ headFor count v (h .next) k
         → us ≡ overlay xs (k * blockSize) (headBytes head) → vs ≡ overlay us (k * blockSize + headSize) (bodyOf h mem k)
         → zs ≡ overlay vs (k * blockSize + checkedSize) (bytesBe 2 (checkOf (part vs (k * blockSize) checkedSize)))
-        → zs ≡ overlay xs (k * blockSize) (savedBlock h mem k)
+        → zs ≡ overlay xs (k * blockSize) (savedBlock v h mem k)
     unfolding savedBlock
     saved-put xs k count f ec kc eh a b c =
-        block-put xs (k * blockSize) (headFor (blocksFor (h .board .rows)) (h .board .rows) (h .next) k) (bodyOf h mem k)
+        block-put xs (k * blockSize) (headFor (blocksFor (h .board .rows)) v (h .next) k) (bodyOf h mem k)
         (body-length k (rw ec at kc)) f (a ∙ rw (eh, ec)) b c
 
     pub blocks-turn : (xs : List ℕ) (k count : ℕ) {a z : List ℕ} → count * blockSize ≤ length xs → count ≡ blocksFor (h .board .rows) → k < count
-        → a ≡ overlay xs 0 (blocks h mem k) → z ≡ overlay a (k * blockSize) (savedBlock h mem k) → z ≡ overlay xs 0 (blocks h mem (k + 1))
+        → a ≡ overlay xs 0 (blocks v h mem k) → z ≡ overlay a (k * blockSize) (savedBlock v h mem k) → z ≡ overlay xs 0 (blocks v h mem (k + 1))
     unfolding blocks
     blocks-turn xs k count f ec g ea ez =
-        let p : length (blocks h mem k) ≡ k * blockSize = blocks-length k (omega arith) in
-        let q : length (savedBlock h mem k) ≡ blockSize = saved-length k (omega arith) in
-        ez ∙ rw (ea, add-one, ← p) (rw zero-add at (overlay-next xs 0 (blocks h mem k) (savedBlock h mem k) (omega arith)))
+        let p : length (blocks v h mem k) ≡ k * blockSize = blocks-length k (omega arith) in
+        let q : length (savedBlock v h mem k) ≡ blockSize = saved-length k (omega arith) in
+        ez ∙ rw (ea, add-one, ← p) (rw zero-add at (overlay-next xs 0 (blocks v h mem k) (savedBlock v h mem k) (omega arith)))
 
-  pub blocks-none : (xs : List ℕ) → xs ≡ overlay xs 0 (blocks h mem 0)
+  pub blocks-none : (xs : List ℕ) → xs ≡ overlay xs 0 (blocks v h mem 0)
   unfolding blocks
   blocks-none xs = sym (overlay-none xs 0)
 
-  pub blocks-all : (xs : List ℕ) (count k : ℕ) {z : List ℕ} → count ≡ blocksFor (h .board .rows) → k ≤ count → count ≤ k → z ≡ overlay xs 0 (blocks h mem k)
-      → z ≡ overlay xs 0 (imageOf h mem)
-  unfolding imageOf
+  pub blocks-all : (xs : List ℕ) (count k : ℕ) {z : List ℕ} → count ≡ blocksFor (h .board .rows) → k ≤ count → count ≤ k → z ≡ overlay xs 0 (blocks v h mem k)
+      → z ≡ overlay xs 0 (imageIn v h mem)
+  unfolding imageIn
   blocks-all xs count k e f g ez = let d : k ≡ blocksFor (h .board .rows) = omega arith in ez ∙ rw d
 
 -- ---- the pages of an image

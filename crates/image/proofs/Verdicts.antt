@@ -11,11 +11,13 @@ use Rattle.field.specs.Bytes.{overlay}
 use Rattle.field.specs.Limits.{numberInRange}
 use Rattle.field.proofs.Answers.{equal-answers}
 use Rattle.block.specs.Block.{blockSize, checkKeeps}
+use Rattle.row.specs.Rules.{newest}
 use Rattle.table.specs.Memory.{isTable}
 use Rattle.table.specs.Rules.{rowsKeep}
+use Rattle.image.specs.Shape.{versionFits}
 use Rattle.image.specs.Header.{freshHeader, withinLimits, headerKeeps, headerOf}
 use Rattle.image.specs.Save.{imageOf, sizeFor, Saving, saving, unsaved, saveOf}
-use Rattle.image.specs.Restore.{countOf, lengthKeeps, checksKeep, headKeeps, headsKeep, verdictOf, Restoring, restored, restoring, restoredBy, restoreOf}
+use Rattle.image.specs.Restore.{countOf, lengthKeeps, checksKeep, headKeeps, headsKeep, versionOf, verdictIn, verdictOf, Restoring, restored, restoring, restoredBy, restoreOf}
 use Rattle.image.specs.declared.Header.{Header}
 use Rattle.image.specs.declared.Refusal.{Refusal}
 use Rattle.image.specs.declared.Refusal.the-variants.{Unfit, BadCheck, BadHead, BadContents, ShortOutput}
@@ -31,19 +33,19 @@ use Rattle.image.proofs.Below.{below-stop}
 module _ (image : List ℕ) (size : lengthKeeps image ≡ true) (k : ℕ) (there : k < countOf image) where
   -- one wrong check anywhere is 22, whatever else is wrong
   pub bad-check : checkKeeps image (k * blockSize) ≡ false → verdictOf image ≡ Refused BadCheck
-  unfolding verdictOf checksKeep
+  unfolding verdictIn checksKeep
   bad-check e = rw (size, ← below-stop (λ (j : ℕ). checkKeeps image (j * blockSize)) k (countOf image) there e)
 
   -- one wrong head anywhere is 23 where every check is right
-  pub bad-head : checksKeep image (countOf image) ≡ true → numberInRange (headerOf image .next) ≡ true
+  pub bad-head : checksKeep image (countOf image) ≡ true → numberInRange (headerOf image .next) && versionFits (versionOf image) (headerOf image .board .rows) ≡ true
       → headKeeps image (countOf image) (headerOf image) k ≡ false → verdictOf image ≡ Refused BadHead
-  unfolding verdictOf headsKeep
+  unfolding verdictIn headsKeep
   bad-head c n e = rw (size, c, n, ← below-stop (headKeeps image (countOf image) (headerOf image)) k (countOf image) there e)
 
 -- a next number outside 1 to 10 ^ 12 is 23 where every check is right
 pub bad-next : (image : List ℕ) → lengthKeeps image ≡ true → checksKeep image (countOf image) ≡ true → numberInRange (headerOf image .next) ≡ false
     → verdictOf image ≡ Refused BadHead
-unfolding verdictOf headsKeep
+unfolding verdictIn headsKeep
 bad-next image size c n = rw (size, c, n)
 
 -- ---- what a refusal leaves
@@ -60,7 +62,7 @@ left-if false b c n w out z r e = sym (ap (λ (s : Saving). s .out) e)
 pub unsaved-leaves : (h : Header) (mem out z : List ℕ) (r : Refusal) → saveOf h mem out ≡ saving (Unsaved r) z → z ≡ out
 unfolding saveOf
 unsaved-leaves h mem out z r e =
-    left-if (withinLimits h mem) (headerKeeps h && rowsKeep (h .board .rows) mem) (leb (sizeFor (h .board .rows)) (length out))
+    left-if (withinLimits h mem) (headerKeeps h && rowsKeep newest (h .board .rows) mem) (leb (sizeFor (h .board .rows)) (length out))
     (sizeFor (h .board .rows)) (overlay out 0 (imageOf h mem)) out z r e
 
 refused-by : (v : Verdict) (image mem z : List ℕ) (h : Header) (r : Refusal) → restoredBy v image mem ≡ restoring (restored (Refused r) h) z → (h ≡ freshHeader) × (z ≡ mem)

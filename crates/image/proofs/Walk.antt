@@ -30,11 +30,11 @@ unfolding newId
 new-equal k a b s =
     rw (s k (omega arith), lacks-same k b a (idOf (row k b)) (λ j h. ap idOf (s j (omega arith))))
 
-pub rows-equal : (rows : ℕ) (a b : List ℕ) → ((j : ℕ) → j < rows → row j a ≡ row j b) → rowsKeep rows a ≡ rowsKeep rows b
+pub rows-equal : (v rows : ℕ) (a b : List ℕ) → ((j : ℕ) → j < rows → row j a ≡ row j b) → rowsKeep v rows a ≡ rowsKeep v rows b
 unfolding rowsKeep
-rows-equal zero a b s = refl
-rows-equal (suc n) a b s =
-    rw (rows-equal n a b (λ j h. s j (omega arith)), s n (omega arith), new-equal n a b (λ j h. s j (omega arith)))
+rows-equal v zero a b s = refl
+rows-equal v (suc n) a b s =
+    rw (rows-equal v n a b (λ j h. s j (omega arith)), s n (omega arith), new-equal n a b (λ j h. s j (omega arith)))
 
 -- ---- and they are tests of every row, and of every id
 
@@ -48,11 +48,11 @@ and-turn true true p q = refl
 and-turn true false p q = sym (and-false p)
 and-turn false b p q = refl
 
-keep-below : (n : ℕ) (mem : List ℕ) → rowsKeep n mem ≡ allBelow (goodRow mem) n && allBelow (λ k. newId k mem) n
+keep-below : (v n : ℕ) (mem : List ℕ) → rowsKeep v n mem ≡ allBelow (goodRow v mem) n && allBelow (λ k. newId k mem) n
 unfolding allBelow rowsKeep
-keep-below zero mem = refl
-keep-below (suc n) mem = rw (keep-below n mem)
-    (and-turn (allBelow (goodRow mem) n) (allBelow (λ k. newId k mem) n) (rowKeeps (row n mem)) (newId n mem))
+keep-below v zero mem = refl
+keep-below v (suc n) mem = rw (keep-below v n mem)
+    (and-turn (allBelow (goodRow v mem) n) (allBelow (λ k. newId k mem) n) (rowKeeps v (row n mem)) (newId n mem))
 
 -- ---- the ids, entered one by one
 
@@ -135,14 +135,14 @@ module _ (k : ℕ) (mem xs ys : List ℕ) (id : ℕ) (r : Bool) (here : Gathered
 
 -- ---- the ways through the walk
 
-module _ (mem : List ℕ) (rows : ℕ) {r : Bool} (er : r ≡ allBelow (goodRow mem) rows) where
-  pub rows-broken : not r ≡ true → false ≡ rowsKeep rows mem
-  rows-broken e = sym (rw (keep-below rows mem, was-no er e))
+module _ (v : ℕ) (mem : List ℕ) (rows : ℕ) {r : Bool} (er : r ≡ allBelow (goodRow v mem) rows) where
+  pub rows-broken : not r ≡ true → false ≡ rowsKeep v rows mem
+  rows-broken e = sym (rw (keep-below v rows mem, was-no er e))
 
-  pub rows-kept : not r ≡ false → {q : Bool} → q ≡ allBelow (ownId mem) rows → q ≡ rowsKeep rows mem
-  rows-kept e eq = eq ∙ sym (rw (keep-below rows mem, was-yes er e))
+  pub rows-kept : not r ≡ false → {q : Bool} → q ≡ allBelow (ownId mem) rows → q ≡ rowsKeep v rows mem
+  rows-kept e eq = eq ∙ sym (rw (keep-below v rows mem, was-yes er e))
 
-lent : (s : List ℕ) (at : ℕ) → take (at + rowSize - at) (drop at s) ≡ part s at rowSize
+pub lent : (s : List ℕ) (at : ℕ) → take (at + rowSize - at) (drop at s) ≡ part s at rowSize
 unfolding part
 lent s at = let e : at + rowSize - at ≡ rowSize = omega arith in rw e
 
@@ -150,13 +150,13 @@ module _ (s : List ℕ) (base stride rows k at : ℕ) (f : PagesIn s base stride
   pub id-there : {id : ℕ} → id ≡ be (part s at 4) → id ≡ idOf (row k (pages s base stride (pagesFor rows)))
   id-there e = e ∙ rw ea (place-id s base stride (pagesFor rows) k f (row-page rows k h)) ∙ row-id k _
 
-  module _ (r : Bool) (er : r ≡ rowKeeps (take (at + rowSize - at) (drop at s))) where
-    row-k : r ≡ goodRow (pages s base stride (pagesFor rows)) k
+  module _ (v : ℕ) (r : Bool) (er : r ≡ rowKeeps v (take (at + rowSize - at) (drop at s))) where
+    row-k : r ≡ goodRow v (pages s base stride (pagesFor rows)) k
     row-k = er ∙ rw (lent s at, ea, place-row s base stride (pagesFor rows) k f (row-page rows k h))
 
-    pub row-breaks : not r ≡ true → false ≡ allBelow (goodRow (pages s base stride (pagesFor rows))) rows
-    row-breaks e = below-stop (goodRow _) k rows h (was-no row-k e)
+    pub row-breaks : not r ≡ true → false ≡ allBelow (goodRow v (pages s base stride (pagesFor rows))) rows
+    row-breaks e = below-stop (goodRow v _) k rows h (was-no row-k e)
 
-    pub row-good : not r ≡ false → allBelow (goodRow (pages s base stride (pagesFor rows))) k ≡ true
-        → allBelow (goodRow (pages s base stride (pagesFor rows))) (k + 1) ≡ true
-    row-good e g = below-turn (goodRow _) k g (was-yes row-k e)
+    pub row-good : not r ≡ false → allBelow (goodRow v (pages s base stride (pagesFor rows))) k ≡ true
+        → allBelow (goodRow v (pages s base stride (pagesFor rows))) (k + 1) ≡ true
+    row-good e g = below-turn (goodRow v _) k g (was-yes row-k e)

@@ -15,12 +15,13 @@ use Rattle.block.specs.Block.{blockSize, bodySize}
 use Rattle.row.specs.Fields.{rowSize}
 use Rattle.table.specs.Memory.{tableSize, isTable, rowsFit, Fitting, row, rowAt}
 use Rattle.table.specs.Board.{fits}
-use Rattle.table.proofs.Ways.{rows-fitting}
+use Rattle.row.specs.Rules.{newest}
 use Rattle.table.specs.Rules.{rowsKeep}
+use Rattle.table.proofs.Ways.{rows-fitting}
 use Rattle.image.specs.Shape.{pagesFor, blocksFor, pages, PagesIn, firstPage}
 use Rattle.image.specs.Header.{freshHeader, withinLimits, headerKeeps, headerOf}
 use Rattle.image.specs.Save.{imageOf, sizeFor, saving, unsaved, saveOf}
-use Rattle.image.specs.Restore.{countOf, verdictOf, memoryOf, restored, restoring, restoredBy, restoreOf}
+use Rattle.image.specs.Restore.{countOf, versionOf, verdictIn, verdictOf, rowsOf, renewed, memoryOf, restored, restoring, restoredBy, restoreOf}
 use Rattle.image.specs.declared.Header.{Header}
 use Rattle.image.specs.declared.Refusal.{Refusal}
 use Rattle.image.specs.declared.Refusal.the-variants.{Unfit, BadLength, BadContents, ShortOutput}
@@ -28,6 +29,7 @@ use Rattle.image.specs.declared.Saved.the-variants.{Whole}
 use Rattle.image.specs.declared.Verdict.{Verdict}
 use Rattle.image.specs.declared.Verdict.the-variants.{Accepted, Refused}
 use Rattle.image.specs.declared.Restored.{Restored}
+use Rattle.image.specs.declared.Wanted.{Wanted}
 use Rattle.image.proofs.Below.{was-no, was-yes}
 use Rattle.image.proofs.Laid.{pages-touch}
 use Rattle.image.proofs.Walk.{rows-equal}
@@ -43,11 +45,11 @@ pub table-pages : (mem : List ℕ) (rows : ℕ) → Fitting rows mem → PagesIn
 unfolding pagesFor
 table-pages mem rows f k h = omega (arith, f .0, f .1)
 
-pub table-rows : (mem : List ℕ) (rows : ℕ) → rowsKeep rows (pages mem 0 bodySize (pagesFor rows)) ≡ rowsKeep rows mem
-table-rows mem rows =
+pub table-rows : (v : ℕ) (mem : List ℕ) (rows : ℕ) → rowsKeep v rows (pages mem 0 bodySize (pagesFor rows)) ≡ rowsKeep v rows mem
+table-rows v mem rows =
     let p = rows-in-pages rows in
     rw (pages-touch mem (pagesFor rows))
-    (rows-equal rows (part mem 0 (pagesFor rows * bodySize)) mem (λ j h. row-start mem j (pagesFor rows * bodySize) (omega arith)))
+    (rows-equal v rows (part mem 0 (pagesFor rows * bodySize)) mem (λ j h. row-start mem j (pagesFor rows * bodySize) (omega arith)))
 
 -- ---- saving
 
@@ -65,9 +67,9 @@ module _ (h : Header) (mem out : List ℕ) {r : Bool} (er : r ≡ withinLimits h
     pub save-limits : Fitting (h .board .rows) mem
     save-limits = limits h mem (was-yes er yes-r)
 
-    module _ {q w : Bool} (eq : q ≡ headerKeeps h) (ew : w ≡ rowsKeep (h .board .rows) (pages mem 0 bodySize (pagesFor (h .board .rows)))) where
-      kept : q && w ≡ headerKeeps h && rowsKeep (h .board .rows) mem
-      kept = rw (eq, ew, table-rows mem (h .board .rows))
+    module _ {q w : Bool} (eq : q ≡ headerKeeps h) (ew : w ≡ rowsKeep newest (h .board .rows) (pages mem 0 bodySize (pagesFor (h .board .rows)))) where
+      kept : q && w ≡ headerKeeps h && rowsKeep newest (h .board .rows) mem
+      kept = rw (eq, ew, table-rows newest mem (h .board .rows))
 
       pub save-broken : not (q && w) ≡ true → unsaved BadContents out ≡ saveOf h mem out
       unfolding saveOf
@@ -90,9 +92,9 @@ accepted-if : (b : Bool) (v : Verdict) (r : Refusal) → cond b v (Refused r) �
 accepted-if true v r e = refl
 accepted-if false v r e = let z : Refused r ≡ Accepted = e in cc
 
-pub accepted-long : (image : List ℕ) (v : Verdict) → v ≡ verdictOf image → v ≡ Accepted → Long image
-unfolding verdictOf
-accepted-long image v e f = long image (accepted-if _ _ BadLength (sym e ∙ f))
+pub accepted-long : (wanted : Wanted) (image : List ℕ) (v : Verdict) → v ≡ verdictIn wanted image → v ≡ Accepted → Long image
+unfolding verdictIn
+accepted-long wanted image v e f = long image (accepted-if _ _ BadLength (sym e ∙ f))
 
 pub refused-with : (r : Refusal) {h : Header} → h ≡ freshHeader → restored (Refused r) h ≡ restored (Refused r) freshHeader
 refused-with r e = ap (restored (Refused r)) e
@@ -111,8 +113,9 @@ module _ (image mem : List ℕ) {w : Bool} (told : w ≡ isTable mem) where
     unfolding restoredBy
     restore-refuses r f e = simp (e) (sym (ap (λ (u : Verdict). restoredBy u image mem) f) ∙ judged)
 
-    pub restore-accepts : (h : Header) {z : List ℕ} → v ≡ Accepted → h ≡ headerOf image
-        → z ≡ pages image firstPage blockSize (countOf image - 1) ++ replicate (tableSize - (countOf image - 1) * bodySize) 0
+    pub restore-accepts : (h : Header) {n : ℕ} {y z : List ℕ} → v ≡ Accepted
+        → y ≡ pages image firstPage blockSize (countOf image - 1) ++ replicate (tableSize - (countOf image - 1) * bodySize) 0
+        → h ≡ headerOf image → n ≡ versionOf image → z ≡ renewed n (h .board .rows) y
         → restoring (restored Accepted h) z ≡ restoreOf image mem
-    unfolding restoredBy memoryOf
-    restore-accepts h f e ez = simp (e, ez) (sym (ap (λ (u : Verdict). restoredBy u image mem) f) ∙ judged)
+    unfolding restoredBy memoryOf rowsOf
+    restore-accepts h f ey e en ez = simp (e, ez, en, ey) (sym (ap (λ (u : Verdict). restoredBy u image mem) f) ∙ judged)

@@ -23,15 +23,6 @@ use Rattle.image.proofs.Puts.{used-length}
 pub zeros-pass : (n : ℕ) → every isZero (replicate n 0) ≡ true
 zeros-pass n = every-replicate isZero n 0 refl
 
-pub zeros-are : (xs : List ℕ) → every isZero xs ≡ true → xs ≡ replicate (length xs) 0
-unfolding every
-zeros-are [] e = refl
-zeros-are (x ∷ xs) e =
-    let z : x ≤ 0 = leb-true x 0 (both-right (leb 0 x) (leb x 0) (both-left (isZero x) (every isZero xs) e)) in
-    let a : x ≡ 0 = omega arith in
-    let b : xs ≡ replicate (length xs) 0 = zeros-are xs (both-right (isZero x) (every isZero xs) e) in
-    cc
-
 -- all from a place on
 pub rest-part : (xs : List ℕ) (at : ℕ) → part xs at (length xs - at) ≡ drop at xs
 unfolding part

@@ -4,3 +4,4 @@ pub mod Header
 pub mod Save
 pub mod Restore
 pub mod Before
+pub mod Moves

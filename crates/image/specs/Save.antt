@@ -8,6 +8,7 @@ use lib.ListN.{length, replicate}
 use Rattle.field.specs.Bytes.{part, overlay}
 use Rattle.block.specs.Block.{blockSize, bodySize, blockOf}
 use Rattle.table.specs.Memory.{tableSize, rowAt}
+use Rattle.row.specs.Rules.{newest}
 use Rattle.table.specs.Rules.{rowsKeep}
 use Rattle.image.specs.Shape.{blocksFor, headFor}
 use Rattle.image.specs.Header.{withinLimits, headerKeeps, firstBody}
@@ -40,16 +41,21 @@ unfoldable pub bodyOf : Header → List ℕ → ℕ → List ℕ
 bodyOf h mem zero = firstBody h
 bodyOf h mem (suc k) = pageOf (h .board .rows) mem k
 
-unfoldable pub savedBlock : Header → List ℕ → ℕ → List ℕ
-savedBlock h mem k = blockOf (headFor (blocksFor (h .board .rows)) (h .board .rows) (h .next) k) (bodyOf h mem k)
+-- in a version
+unfoldable pub savedBlock : ℕ → Header → List ℕ → ℕ → List ℕ
+savedBlock version h mem k = blockOf (headFor (blocksFor (h .board .rows)) version (h .next) k) (bodyOf h mem k)
 
 -- the first n blocks
-unfoldable pub blocks : Header → List ℕ → ℕ → List ℕ
-blocks h mem zero = []
-blocks h mem (suc n) = blocks h mem n ++ savedBlock h mem n
+unfoldable pub blocks : ℕ → Header → List ℕ → ℕ → List ℕ
+blocks version h mem zero = []
+blocks version h mem (suc n) = blocks version h mem n ++ savedBlock version h mem n
 
-unfoldable pub imageOf : Header → List ℕ → List ℕ
-imageOf h mem = blocks h mem (blocksFor (h .board .rows))
+unfoldable pub imageIn : ℕ → Header → List ℕ → List ℕ
+imageIn version h mem = blocks version h mem (blocksFor (h .board .rows))
+
+-- saving writes version 3 only
+abbrev pub imageOf : Header → List ℕ → List ℕ
+imageOf h mem = imageIn newest h mem
 
 unfoldable pub sizeFor : ℕ → ℕ
 sizeFor rows = blocksFor rows * blockSize
@@ -71,7 +77,7 @@ unsaved r out = saving (Unsaved r) out
 unfoldable pub saveOf : Header → List ℕ → List ℕ → Saving
 saveOf h mem out =
     cond (withinLimits h mem)
-    (cond (headerKeeps h && rowsKeep (h .board .rows) mem)
+    (cond (headerKeeps h && rowsKeep newest (h .board .rows) mem)
     (cond (leb (sizeFor (h .board .rows)) (length out))
     (saving (Whole (sizeFor (h .board .rows))) (overlay out 0 (imageOf h mem)))
     (unsaved ShortOutput out))

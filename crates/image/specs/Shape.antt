@@ -1,15 +1,18 @@
 -- The shape of a saved table: how many blocks it has, their heads, and the pages of rows in them.
 -- Assumes nothing.
 use Prim.Native.Nat.{ℕ, zero, suc, _+_, _-_, _*_, _/_, _%_, _≤_, _<_}
-use mathlib.Core.Bool.{Bool, true, _&&_, cond}
+use mathlib.Core.Bool.{Bool, true, _&&_, _||_, not, cond}
 use mathlib.Core.List.{List, [], _++_}
-use lib.Dec.{leb}
+use lib.Dec.{eqb, leb}
 use lib.ListN.{length}
 use Rattle.field.specs.Bytes.{part}
 use Rattle.block.specs.Block.{blockSize, headSize, bodySize}
 use Rattle.block.specs.declared.Head.{Head}
 use Rattle.row.specs.Fields.{rowSize}
+use Rattle.row.specs.Rules.{newest}
 use Rattle.table.specs.Memory.{mostRows}
+use Rattle.image.specs.declared.Wanted.{Wanted}
+use Rattle.image.specs.declared.Wanted.the-variants.{Any, Older, Newest}
 
 -- ---- the count
 
@@ -29,18 +32,30 @@ blocksFor rows = 1 + pagesFor rows
 abbrev pub mostBlocks : ℕ
 mostBlocks = 1 + mostRows / pageRows
 
--- ---- the heads
+-- ---- the versions
 
--- W-208: version 1 for up to 256 rows, as many as a table had before it; more rows carry version 2
+-- before W-209: version 1 for up to 256 rows, as many as a table had before W-208; more rows carry version 2
 abbrev pub rowsOfVersion1 : ℕ
 rowsOfVersion1 = 256
 
-unfoldable pub versionFor : ℕ → ℕ
-versionFor rows = cond (leb rows rowsOfVersion1) 1 2
+unfoldable pub oldVersion : ℕ → ℕ
+oldVersion rows = cond (leb rows rowsOfVersion1) 1 2
 
--- the head of block k among so many, of a table of so many rows
+-- an image has version 3, or the one that its rows had before
+unfoldable pub versionFits : ℕ → ℕ → Bool
+versionFits version rows = eqb version newest || eqb version (oldVersion rows)
+
+-- a call takes any version, or only those before version 3, or only version 3
+abbrev pub welcome : Wanted → ℕ → Bool
+welcome Any version = true
+welcome Older version = not (eqb version newest)
+welcome Newest version = eqb version newest
+
+-- ---- the heads
+
+-- the head of block k among so many
 unfoldable pub headFor : ℕ → ℕ → ℕ → ℕ → Head
-headFor count rows next k = record { number = k; count = count; version = versionFor rows; next = next }
+headFor count version next k = record { number = k; count = count; version = version; next = next }
 
 -- ---- the pages
 

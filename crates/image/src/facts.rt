@@ -12,7 +12,7 @@ ghost use Rattle.block.specs.Block.{blockSize, bodySize};
 ghost use Rattle.table.specs.Memory.{mostRows};
 ghost use Rattle.table.specs.Rules.{boardKeeps};
 ghost use Rattle.image.specs.Header.{flag, isFresh, headerKeeps, sessionBytes, boardBytes, firstBody, headerOf};
-ghost use Rattle.image.specs.Restore.{factsKeep};
+ghost use Rattle.image.specs.Restore.{versionOf, factsKeep};
 
 // In the body of block 0 zeros follow so many bytes.
 const FACTS_SIZE: usize = 22;
@@ -94,6 +94,14 @@ pub fn read(image: &[u8]) -> Header
         next: first.next,
         board,
     }
+}
+
+pub fn version(image: &[u8]) -> u16
+    requires { ⌜ blockSize ≤ length (now image) ⌝ }
+    ensures { λ r. ⌜ r ≡ versionOf (now (image .entry)) ⌝ }
+{
+    let first = block::read_head(image, 0);
+    first.version
 }
 
 // Is the byte for "known" 0 or 1, and are there zeros behind the live number?

@@ -2,6 +2,7 @@
 use crate::Header;
 use crate::Refusal;
 use crate::Verdict;
+use crate::Wanted;
 use crate::facts;
 use crate::pages;
 use crate::rows;
@@ -11,8 +12,8 @@ ghost use mathlib.Core.Path.{_≡_};
 ghost use Prim.Native.Nat.{_*_, _≤_, _<_};
 ghost use lib.ListN.{length};
 ghost use Rattle.block.specs.Block.{blockSize};
-ghost use Rattle.image.specs.Shape.{mostBlocks};
-ghost use Rattle.image.specs.Restore.{lengthKeeps, checksKeep, headKeeps, headsKeep, slotsKeep, contentsKeep, verdictOf};
+ghost use Rattle.image.specs.Shape.{mostBlocks, welcome};
+ghost use Rattle.image.specs.Restore.{lengthKeeps, checksKeep, versionOf, headKeeps, headsKeep, slotsKeep, contentsKeep, verdictIn};
 
 fn length_keeps(image: &[u8]) -> bool
     ensures { λ r. ⌜ r ≡ lengthKeeps (now (image .entry)) ⌝ }
@@ -35,24 +36,35 @@ fn checks_keep(image: &[u8], count: usize) -> bool
     true
 }
 
-fn head_keeps(image: &[u8], count: usize, h: Header, k: usize) -> bool
-    requires { ⌜ (count * blockSize ≤ length (now image)) × (count ≤ mostBlocks) × (k < count) ⌝ }
+fn welcomes(wanted: Wanted, version: u16) -> bool
+    ensures { λ r. ⌜ r ≡ welcome wanted version ⌝ }
+{
+    match wanted {
+        Wanted::Any => true,
+        Wanted::Older => version != row::rules::NEWEST,
+        Wanted::Newest => version == row::rules::NEWEST,
+    }
+}
+
+fn head_keeps(image: &[u8], count: usize, h: Header, version: u16, k: usize) -> bool
+    requires { ⌜ (version ≡ versionOf (now image)) × (count * blockSize ≤ length (now image)) × (count ≤ mostBlocks) × (k < count) ⌝ }
     ensures { λ r. ⌜ r ≡ headKeeps (now (image .entry)) count h k ⌝ }
 {
     let there = block::read_head(image, k * block::BLOCK_SIZE);
-    block::same_head(there, pages::head_for(count, h.board.rows, h.next, k))
+    block::same_head(there, pages::head_for(count, version, h.next, k))
 }
 
-fn heads_keep(image: &[u8], count: usize, h: Header) -> bool
-    requires { ⌜ (count * blockSize ≤ length (now image)) × (count ≤ mostBlocks) ⌝ }
+fn heads_keep(image: &[u8], count: usize, h: Header, version: u16) -> bool
+    requires { ⌜ (version ≡ versionOf (now image)) × (count * blockSize ≤ length (now image)) × (count ≤ mostBlocks) ⌝ }
     ensures { λ r. ⌜ r ≡ headsKeep (now (image .entry)) count h ⌝ }
 {
-    if !limits::number_in_range(h.next) {
+    let fit = limits::number_in_range(h.next) & pages::version_fits(version, h.board.rows);
+    if !fit {
         return false;
     }
     let mut k = 0;
     while k < count {
-        if !head_keeps(image, count, h, k) {
+        if !head_keeps(image, count, h, version, k) {
             return false;
         }
         k += 1;
@@ -60,14 +72,14 @@ fn heads_keep(image: &[u8], count: usize, h: Header) -> bool
     true
 }
 
-fn slots_keep(image: &[u8], count: usize, rows: usize) -> bool
-    requires { ⌜ (count * blockSize ≤ length (now image)) × (1 ≤ count) × (count ≤ mostBlocks) × (rows ≤ 65_535) ⌝ }
+fn slots_keep(image: &[u8], count: usize, version: u16, rows: usize) -> bool
+    requires { ⌜ (version ≡ versionOf (now image)) × (count * blockSize ≤ length (now image)) × (1 ≤ count) × (count ≤ mostBlocks) × (rows ≤ 65_535) ⌝ }
     ensures { λ r. ⌜ r ≡ slotsKeep (now (image .entry)) count rows ⌝ }
 {
     if pages::blocks_for(rows) != count {
         return false;
     }
-    if !rows::keep(image, pages::FIRST_PAGE, block::BLOCK_SIZE, rows) {
+    if !rows::keep(image, pages::FIRST_PAGE, block::BLOCK_SIZE, version, rows) {
         return false;
     }
     // The slots that no row takes end where the last block's check begins.
@@ -75,8 +87,8 @@ fn slots_keep(image: &[u8], count: usize, rows: usize) -> bool
     text::only(image, count * block::BLOCK_SIZE - 2 - spare, spare, 0)
 }
 
-fn contents_keep(image: &[u8], count: usize, h: Header) -> bool
-    requires { ⌜ (count * blockSize ≤ length (now image)) × (1 ≤ count) × (count ≤ mostBlocks) × (h .board .rows ≤ 65_535) ⌝ }
+fn contents_keep(image: &[u8], count: usize, h: Header, version: u16) -> bool
+    requires { ⌜ (version ≡ versionOf (now image)) × (count * blockSize ≤ length (now image)) × (1 ≤ count) × (count ≤ mostBlocks) × (h .board .rows ≤ 65_535) ⌝ }
     ensures { λ r. ⌜ r ≡ contentsKeep (now (image .entry)) count h ⌝ }
 {
     if !facts::only_facts(image) {
@@ -85,11 +97,11 @@ fn contents_keep(image: &[u8], count: usize, h: Header) -> bool
     if !facts::keep(h) {
         return false;
     }
-    slots_keep(image, count, h.board.rows)
+    slots_keep(image, count, version, h.board.rows)
 }
 
-pub fn judge(image: &[u8]) -> Verdict
-    ensures { λ r. ⌜ r ≡ verdictOf (now (image .entry)) ⌝ }
+pub fn judge(image: &[u8], wanted: Wanted) -> Verdict
+    ensures { λ r. ⌜ r ≡ verdictIn wanted (now (image .entry)) ⌝ }
 {
     if !length_keeps(image) {
         return Verdict::Refused(Refusal::BadLength);
@@ -99,10 +111,12 @@ pub fn judge(image: &[u8]) -> Verdict
         return Verdict::Refused(Refusal::BadCheck);
     }
     let h = facts::read(image);
-    if !heads_keep(image, count, h) {
+    let version = facts::version(image);
+    let fit = heads_keep(image, count, h, version) & welcomes(wanted, version);
+    if !fit {
         return Verdict::Refused(Refusal::BadHead);
     }
-    if !contents_keep(image, count, h) {
+    if !contents_keep(image, count, h, version) {
         return Verdict::Refused(Refusal::BadContents);
     }
     Verdict::Accepted

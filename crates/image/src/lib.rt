@@ -9,6 +9,7 @@ ghost use Rattle.image.specs.Restore.{restoring, restored, restoreOf};
 mod facts;
 mod ids;
 mod judge;
+pub mod moves;
 mod pages;
 mod rows;
 
@@ -39,6 +40,19 @@ pub enum Refusal {
     BadContents,
     // The output is too short for the image.
     ShortOutput,
+}
+
+// The versions that a call takes: any, those before version 3, version 3.
+pub enum Wanted {
+    Any,
+    Older,
+    Newest,
+}
+
+// An image is moved to version 3, or back to the one that its rows had before.
+pub enum Way {
+    Forward,
+    Back,
 }
 
 pub enum Saved {
@@ -96,7 +110,7 @@ pub fn save(h: Header, table: &[u8], out: &mut [u8]) -> Saved
         return Saved::Unsaved(Refusal::Unfit);
     }
     let rows = h.board.rows;
-    let kept = facts::keep(h) & rows::keep(table, 0, block::BODY_SIZE, rows);
+    let kept = facts::keep(h) & rows::keep(table, 0, block::BODY_SIZE, row::rules::NEWEST, rows);
     if !kept {
         return Saved::Unsaved(Refusal::BadContents);
     }
@@ -119,17 +133,18 @@ fn refuse(r: Refusal) -> Restored
     }
 }
 
-// The rows of an image to table memory, with zeros past them. Nothing is written before every check has passed.
+// The rows of an image to table memory, as version 3 has them, with zeros past them. Nothing is written before every check has passed.
 pub fn restore(image: &[u8], table: &mut [u8]) -> Restored
     ensures { λ r. ⌜ restoring r (now (table .exit)) ≡ restoreOf (now (image .entry)) (now (table .entry)) ⌝ }
 {
     if !table::is_table(table) {
         return refuse(Refusal::Unfit);
     }
-    match judge::judge(image) {
+    match judge::judge(image, Wanted::Any) {
         Verdict::Accepted => {
             pages::take(image, table, image.len() / block::BLOCK_SIZE - 1);
             let header = facts::read(image);
+            moves::renew(table, facts::version(image), header.board.rows);
             Restored {
                 verdict: Verdict::Accepted,
                 header,

@@ -1,6 +1,7 @@
 // The blocks of an image, written and taken: a block after the first is a page of table memory.
 use crate::Header;
 use block::Head;
+use row::rules;
 ghost use mathlib.Core.Path.{_≡_};
 ghost use mathlib.Core.List.{_++_};
 ghost use Prim.Native.Nat.{_+_, _-_, _*_, _≤_, _<_};
@@ -8,8 +9,9 @@ ghost use lib.ListN.{length, replicate};
 ghost use Rattle.field.specs.Bytes.{overlay};
 ghost use Rattle.block.specs.Block.{blockSize, bodySize};
 ghost use Rattle.table.specs.Memory.{mostRows, tableSize};
-ghost use Rattle.image.specs.Shape.{pagesFor, blocksFor, mostBlocks, versionFor, headFor, pages, firstPage};
+ghost use Rattle.image.specs.Shape.{pagesFor, blocksFor, mostBlocks, oldVersion, versionFits, headFor, pages, firstPage};
 ghost use Rattle.image.specs.Save.{pageOf, bodyOf, savedBlock, imageOf};
+ghost use Rattle.row.specs.Rules.{newest};
 
 // A table had at most so many rows before W-208.
 const ROWS_OF_VERSION_1: usize = 256;
@@ -24,22 +26,29 @@ pub fn blocks_for(rows: usize) -> usize
     1 + (rows + (crate::PAGE_ROWS - 1)) / crate::PAGE_ROWS
 }
 
-// An image of more rows than tables had before W-208 carries another version.
-fn version_for(rows: usize) -> u16
-    ensures { λ r. ⌜ r ≡ versionFor rows ⌝ }
+// The version that an image of so many rows had before W-209.
+pub fn old_version(rows: usize) -> u16
+    ensures { λ r. ⌜ r ≡ oldVersion rows ⌝ }
 {
     if rows <= ROWS_OF_VERSION_1 { 1 } else { 2 }
 }
 
+// An image has version 3, or the one that its rows had before.
+pub fn version_fits(version: u16, rows: usize) -> bool
+    ensures { λ r. ⌜ r ≡ versionFits version rows ⌝ }
+{
+    (version == rules::NEWEST) | (version == old_version(rows))
+}
+
 // The head of block k.
-pub fn head_for(count: usize, rows: usize, next: u64, k: usize) -> Head
+pub fn head_for(count: usize, version: u16, next: u64, k: usize) -> Head
     requires { ⌜ (count ≤ mostBlocks) × (k < count) ⌝ }
-    ensures { λ r. ⌜ r ≡ headFor count rows next k ⌝ }
+    ensures { λ r. ⌜ r ≡ headFor count version next k ⌝ }
 {
     Head {
         number: k as u16,
         count: count as u16,
-        version: version_for(rows),
+        version,
         next,
     }
 }
@@ -72,10 +81,10 @@ fn put_body(out: &mut [u8], at: usize, h: Header, table: &[u8], k: usize)
 
 fn put_block(out: &mut [u8], h: Header, table: &[u8], count: usize, k: usize)
     requires { ⌜ (k * blockSize + blockSize ≤ length (now out)) × (length (now table) ≡ tableSize) × (h .board .rows ≤ mostRows) × (count ≡ blocksFor (h .board .rows)) × (k < count) ⌝ }
-    ensures { λ r. ⌜ now (out .exit) ≡ overlay (now (out .entry)) (k * blockSize) (savedBlock h (now (table .entry)) k) ⌝ }
+    ensures { λ r. ⌜ now (out .exit) ≡ overlay (now (out .entry)) (k * blockSize) (savedBlock newest h (now (table .entry)) k) ⌝ }
 {
     let at = k * block::BLOCK_SIZE;
-    block::put_head(out, at, head_for(count, h.board.rows, h.next, k));
+    block::put_head(out, at, head_for(count, rules::NEWEST, h.next, k));
     put_body(out, at + block::HEAD_SIZE, h, table, k);
     block::put_check(out, at);
 }

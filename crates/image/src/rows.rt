@@ -9,7 +9,7 @@ ghost use Rattle.image.specs.Shape.{pagesFor, pages, PagesIn, placeOf, a
 ghost use Rattle.image.specs.Ids.{goodRow, ownId};
 
 // Where row k stands: the first page is at `base`, and each `stride` bytes after the one before it.
-fn place(base: usize, stride: usize, k: usize) -> usize
+pub fn place(base: usize, stride: usize, k: usize) -> usize
     requires { ⌜ placeOf base stride k < 2 ^ 64 ⌝ }
     ensures { λ r. ⌜ r ≡ placeOf base stride k ⌝ }
 {
@@ -17,15 +17,15 @@ fn place(base: usize, stride: usize, k: usize) -> usize
 }
 
 // Does each row keep its own rules?
-fn each_keeps(s: &[u8], base: usize, stride: usize, rows: usize) -> bool
+fn each_keeps(s: &[u8], base: usize, stride: usize, version: u16, rows: usize) -> bool
     requires { ⌜ PagesIn (now s) base stride (pagesFor rows) ⌝ }
-    ensures { λ r. ⌜ r ≡ allBelow (goodRow (pages (now (s .entry)) base stride (pagesFor rows))) rows ⌝ }
+    ensures { λ r. ⌜ r ≡ allBelow (goodRow version (pages (now (s .entry)) base stride (pagesFor rows))) rows ⌝ }
 {
     let mut k = 0;
     while k < rows {
         let at = place(base, stride, k);
         let to = at + row::ROW_SIZE;
-        if !row::rules::keep(&s[at..to]) {
+        if !row::rules::keep(version, &s[at..to]) {
             return false;
         }
         k += 1;
@@ -48,11 +48,11 @@ fn each_new(s: &[u8], base: usize, stride: usize, rows: usize, rising: &mut [u32
     true
 }
 
-pub fn keep(s: &[u8], base: usize, stride: usize, rows: usize) -> bool
+pub fn keep(s: &[u8], base: usize, stride: usize, version: u16, rows: usize) -> bool
     requires { ⌜ PagesIn (now s) base stride (pagesFor rows) × (rows ≤ mostRows) ⌝ }
-    ensures { λ r. ⌜ r ≡ rowsKeep rows (pages (now (s .entry)) base stride (pagesFor rows)) ⌝ }
+    ensures { λ r. ⌜ r ≡ rowsKeep version rows (pages (now (s .entry)) base stride (pagesFor rows)) ⌝ }
 {
-    if !each_keeps(s, base, stride, rows) {
+    if !each_keeps(s, base, stride, version, rows) {
         return false;
     }
     let mut rising = [0u32; table::MOST_ROWS];

@@ -36,13 +36,17 @@ use Rattle.reader.proofs.Views.{head-in, memory-in, reader-back}
 use Rattle.block.specs.Block.{blockSize}
 use Rattle.image.specs.Header as headers
 use Rattle.image.specs.Save as images
-use Rattle.image.specs.Save.{saving, sizeFor, saveOf}
+use Rattle.image.specs.Save.{Saving, saving, sizeFor, saveOf}
+use Rattle.image.specs.Moves.{wantedBy, moveOf}
 use Rattle.image.specs.Shape.{blocksFor, pagesFor, mostBlocks}
 use Rattle.image.specs.declared.Header.{Header}
 use Rattle.image.specs.declared.Refusal as image
+use Rattle.image.proofs.Again as again
 use Rattle.image.proofs.Rounds.{stored}
+use Rattle.image.proofs.Calls.{went}
 use Rattle.image.specs.declared.Saved.{Saved}
 use Rattle.image.specs.declared.Saved.the-variants as saved
+use Rattle.image.specs.declared.Way.{Way}
 use Rattle.row.specs.Fields.{rowSize}
 use Rattle.table.specs.Memory.{mostRows, tableSize, rowsFit, Fitting, Memories, memories}
 use Rattle.table.specs.Index.{placeSize, indexSize, isIndex, sought}
@@ -55,7 +59,7 @@ use Rattle.listing.specs.Lines.{lineIn, lineSize, endingOf, lineOf, lineWith, n
 use Rattle.listing.specs.declared.Shown.the-variants as shown
 use Rattle.listing.specs.declared.Text.{Text}
 use Rattle.listing.specs.declared.Ending.{Ending}
-use Rattle.nelqubat.specs.Host.{noHeld, unheld, startedAs, startHost, StartsOn, restoredAs, restoreHost, RestoresOn, savedNumber, savedAs, SavedFits, saveHost, lineTo, shownTo, lineHost, FoundFits, foundNumber, findHost}
+use Rattle.nelqubat.specs.Host.{noHeld, unheld, startedAs, startHost, StartsOn, restoredAs, restoreHost, RestoresOn, savedNumber, savedAs, SavedFits, saveHost, moveHost, lineTo, shownTo, lineHost, FoundFits, foundNumber, findHost}
 
 -- ---- a reader that holds nothing, over a handle
 
@@ -132,6 +136,21 @@ module _ (handle table out : List ℕ) {b : Bool} (e : b ≡ isHandle handle) wh
   unfolding saveHost
   save-goes r s after f g h i =
       rw (not-not-call b (isHandle handle) e f, i) (number-any s [] after ∙ ap savedAs (rw g at h))
+
+-- ---- a move
+
+pub move-goes : (way : Way) (image out : List ℕ) {n : ℕ} (s : Saved) (after : List ℕ) → saving s after ≡ moveOf way image out → n ≡ savedNumber (writtenOf s [])
+    → answered n after ≡ moveHost way image out
+unfolding moveHost
+move-goes way image out s after h i = ap (λ (x : ℕ). answered x after) i ∙ number-any s [] after ∙ ap (λ (o : Saving). savedAs (writtenBy o)) h
+
+-- a moved image is as long as it was
+pub move-fits : (way : Way) (image out : List ℕ) (s : Saved) (after : List ℕ) → saving s after ≡ moveOf way image out → SavedFits s
+move-fits way image out (saved.Whole n) after e =
+    let g = went way image out n after (sym e) in
+    let k = again.kept (wantedBy way) image (g .taken) .0 .size in
+    omega (arith, g .size, k .few, k .whole)
+move-fits way image out (saved.Unsaved r) after e = omega arith
 
 -- ---- a line
 

@@ -14,7 +14,9 @@ use Rattle.packet.specs.Session.{Session}
 use Rattle.handle.specs.Handle.{handleSize, isHandle, headOf, handleBytes}
 use Rattle.block.specs.Block.{blockSize}
 use Rattle.image.specs.Shape.{mostBlocks}
+use Rattle.image.specs.Moves.{moveOf}
 use Rattle.image.specs.declared.Saved.{Saved}
+use Rattle.image.specs.declared.Way.{Way}
 use Rattle.table.specs.Memory.{mostRows, Memories, Found, At, Nothing, rowFor}
 use Rattle.table.specs.Index.{sought}
 use Rattle.table.specs.declared.index.Sought.{Sought}
@@ -27,7 +29,7 @@ use Rattle.record.specs.Record.{Answered, answered}
 use Rattle.reader.specs.Deliver.{Table}
 use Rattle.reader.specs.View.{stateOf, memoryIn}
 use Rattle.reader.specs.Calls.{Begun, startAll}
-use Rattle.reader.specs.Saving.{Written, writtenOf, Came, saveAll, restoreAll}
+use Rattle.reader.specs.Saving.{Written, writtenOf, writtenBy, Came, saveAll, restoreAll}
 use Rattle.reader.specs.Handles.{readerIn, hostWithin, hostMayStep, headIn, Left, left}
 
 -- ---- STARTING AND RESTORING
@@ -88,6 +90,16 @@ HostSaves handle table out a out′ = answered a out′ ≡ saveHost handle tabl
 abbrev pub SavedFits : Saved → Type 0
 SavedFits s = writtenOf s [] .count ≤ mostBlocks * blockSize
 
+-- ---- MOVING AN IMAGE (W-209)
+
+-- it answers as saving does, and looks at no handle
+unfoldable pub moveHost : Way → List ℕ → List ℕ → Answered
+moveHost way image out = savedAs (writtenBy (moveOf way image out))
+
+-- THE PROMISE OF A MOVE
+abbrev pub HostMoves : Way → List ℕ → List ℕ → ℕ → List ℕ → Type 0
+HostMoves way image out a out′ = answered a out′ ≡ moveHost way image out
+
 -- ---- A LINE OF THE LISTING
 
 -- 25 for a line that has no room
@@ -144,4 +156,4 @@ walkedFind handle table id = cond (hostWithin handle table) (walkedNumber (rowFo
 
 -- that the header names too
 abbrev pub hostVersion : ℕ
-hostVersion = 5
+hostVersion = 6

@@ -21,13 +21,14 @@ ghost use Rattle.listing.specs.Lines.{lineSize, Short};
 ghost use Rattle.handle.specs.Handle.{handleSize, handleBytes};
 ghost use Rattle.record.specs.Places.{recordSize};
 ghost use Rattle.record.specs.Record.{answered, readAnswer, writeAnswer};
+ghost use Rattle.image.specs.declared.Way.the-variants.{Forward, Back};
 ghost use Rattle.reader.specs.Saving.{writtenOf, restoreNumber};
 ghost use Rattle.reader.specs.Handles.{HostSteps, GoesOn};
 ghost use Rattle.reader.specs.Running.{HostRuns, RunsOn};
-ghost use Rattle.nelqubat.specs.Host.{noHeld, HostStarts, StartsOn, HostRestores, RestoresOn, savedNumber, SavedFits, HostSaves, lineTo, shownTo, hostVersion, lineHost, FoundFits, foundNumber, findHost};
+ghost use Rattle.nelqubat.specs.Host.{noHeld, HostStarts, StartsOn, HostRestores, RestoresOn, savedNumber, SavedFits, HostSaves, HostMoves, lineTo, shownTo, hostVersion, lineHost, FoundFits, foundNumber, findHost};
 
 // The header that the library goes with names the same version.
-const VERSION: u32 = 5;
+const VERSION: u32 = 6;
 
 #[no_mangle]
 pub extern "C" fn nelqubat_version() -> u32
@@ -147,6 +148,22 @@ pub extern "C" fn nelqubat_save(handle: &[u8], table: &[u8], out: &mut [u8]) -> 
         return 20;
     }
     saved_number(Reader::read(handle).save(table, out))
+}
+
+// An image of version 1 or 2 as version 3, to the front of `out`; the answer is as of saving.
+#[no_mangle]
+pub extern "C" fn nelqubat_forward(image: &[u8], out: &mut [u8]) -> u32
+    ensures { λ r. ⌜ HostMoves Forward (now (image .entry)) (now (out .entry)) r (now (out .exit)) ⌝ }
+{
+    saved_number(image::moves::forward(image, out))
+}
+
+// An image of version 3 as version 1 or 2 by its rows, to the front of `out`; the answer is as of saving.
+#[no_mangle]
+pub extern "C" fn nelqubat_back(image: &[u8], out: &mut [u8]) -> u32
+    ensures { λ r. ⌜ HostMoves Back (now (image .entry)) (now (out .entry)) r (now (out .exit)) ⌝ }
+{
+    saved_number(image::moves::back(image, out))
 }
 
 fn verdict_number(verdict: image::Verdict) -> u32

@@ -20,8 +20,8 @@ use Rattle.message.specs.declared.Directory.{Directory}
 use Rattle.message.specs.declared.TradingAction.{TradingAction}
 use Rattle.message.specs.declared.Texts.{Texts}
 use Rattle.message.proofs.Layouts.{fields-length}
-use Rattle.row.specs.Fields.{rowSize, entryOf, idOf, sidesOf, sideAt, other, numbersOf}
-use Rattle.row.specs.Changes.{Change, changed, Place, place, places, outside, entryChange, conditionChange, stampChange, purgeFor, sidesChanges, directoryChanges, newRow, actionChanges, quoteChanges, directoryPlaces, actionPlaces, quotePlaces}
+use Rattle.row.specs.Fields.{rowSize, entryOf, idOf, sidesOf, sideAt, sideTimeAt, sideTimeOf, other, numbersOf}
+use Rattle.row.specs.Changes.{Change, changed, Place, place, places, outside, entryChange, conditionChange, stampChange, purgeFor, sidesChanges, timesChanges, ownChanges, directoryChanges, newRow, actionChanges, quoteChanges, directoryPlaces, actionPlaces, quotePlaces}
 use Rattle.row.specs.declared.Sides.{Sides}
 use Rattle.row.specs.declared.Sides.the-variants.{One, Both}
 use Rattle.row.specs.declared.Quote.{Quote}
@@ -47,11 +47,11 @@ module _ {cs : List Change} {ps : List Place} (f : Fitting cs ps) (r : List ℕ)
 -- ---- the places of each kind
 
 pub quote-sides : (c : ℕ) (s : Stamp) (r : List ℕ) (sides : Sides)
-    → Fitting (conditionChange c ∷ stampChange s ∷ sidesChanges sides (sidesOf r)) (quotePlaces sides)
-unfolding sidesChanges digits bytesFor inside
-quote-sides c s r (One Bid n) = record { wide = (refl, (refl, (refl, (refl, tt)))); within = refl; there = refl }
-quote-sides c s r (One Ask n) = record { wide = (refl, (refl, (refl, (refl, tt)))); within = refl; there = refl }
-quote-sides c s r (Both bid ask) = record { wide = (refl, (refl, (refl, (refl, (refl, tt))))); within = refl; there = refl }
+    → Fitting (conditionChange c ∷ stampChange s ∷ ownChanges sides (sidesOf r) (s .time)) (quotePlaces sides)
+unfolding sidesChanges timesChanges digits bytesFor inside
+quote-sides c s r (One Bid n) = record { wide = (refl, (refl, (refl, (refl, (refl, tt))))); within = refl; there = refl }
+quote-sides c s r (One Ask n) = record { wide = (refl, (refl, (refl, (refl, (refl, tt))))); within = refl; there = refl }
+quote-sides c s r (Both bid ask) = record { wide = (refl, (refl, (refl, (refl, (refl, (refl, (refl, tt))))))); within = refl; there = refl }
 
 pub quote-fitting : (q : Quote) (r : List ℕ) → Fitting (quoteChanges q r) (quotePlaces (q .sides))
 unfolding quoteChanges
@@ -68,9 +68,9 @@ module _ (d : Directory) (t : Texts) (fit : Fit instrumentRows (instrumentFields
   entry-wide = omega (arith, fields-length instrumentRows (instrumentFields (d .instrument) t) 11 63 refl fit)
 
   relisted : (n : Bool)
-      → Fitting (entryChange (d .instrument) t ∷ stampChange (d .stamp) ∷ purgeFor n) (place 0 entrySize ∷ place 96 10 ∷ cond n (place 53 1 ∷ place 54 42 ∷ []) [])
+      → Fitting (entryChange (d .instrument) t ∷ stampChange (d .stamp) ∷ purgeFor n) (place 0 entrySize ∷ place 96 10 ∷ cond n (place 53 1 ∷ place 54 42 ∷ place 106 16 ∷ []) [])
   unfolding digits bytesFor inside
-  relisted true = record { wide = (entry-wide, (refl, (refl, (refl, tt)))); within = refl; there = refl }
+  relisted true = record { wide = (entry-wide, (refl, (refl, (refl, (refl, tt))))); within = refl; there = refl }
   relisted false = record { wide = (entry-wide, (refl, tt)); within = refl; there = refl }
 
   pub directory-fitting : Fitting (directoryChanges d t) (directoryPlaces d)
@@ -94,6 +94,11 @@ sides-apart : (side : Side) (n : LongNumbers) → outside (sideAt (other side)) 
 unfolding outside
 sides-apart Bid n = refl
 sides-apart Ask n = refl
+
+times-apart : (side : Side) (n : LongNumbers) → outside (sideTimeAt (other side)) 8 (quotePlaces (One side n)) ≡ true
+unfolding outside
+times-apart Bid n = refl
+times-apart Ask n = refl
 
 purge-clear : (s : Stamp) (n : Bool) → outside 0 entrySize (places (stampChange s ∷ purgeFor n)) ≡ true
 unfolding outside
@@ -140,3 +145,8 @@ module _ (r : List ℕ) (long : length r ≡ rowSize) where
   -- THEOREM: the other side keeps every byte on a one-sided quote
   pub other-side : (q : Quote) (side : Side) (n : LongNumbers) → q .sides ≡ One side n → numbersOf (other side) (changed (quoteChanges q r) r) ≡ numbersOf (other side) r
   other-side q side n e = left-alone (quote-fitting q r) r long (sideAt (other side)) 20 (ap (λ (x : Sides). outside (sideAt (other side)) 20 (quotePlaces x)) e ∙ sides-apart side n)
+
+  -- THEOREM: and its time
+  pub other-time : (q : Quote) (side : Side) (n : LongNumbers) → q .sides ≡ One side n → sideTimeOf (other side) (changed (quoteChanges q r) r) ≡ sideTimeOf (other side) r
+  other-time q side n e =
+      ap be (left-alone (quote-fitting q r) r long (sideTimeAt (other side)) 8 (ap (λ (x : Sides). outside (sideTimeAt (other side)) 8 (quotePlaces x)) e ∙ times-apart side n))

@@ -13,8 +13,8 @@ use Rattle.message.specs.declared.Price.the-variants.{Above, None}
 use Rattle.message.specs.declared.ShortPrice.{ShortPrice}
 use Rattle.message.specs.declared.ShortPrice.the-variants as short
 use Rattle.message.specs.declared.ShortNumbers.{ShortNumbers}
-use Rattle.row.specs.Fields.{rowSize, sidesOf, priceOf, numbersOf, seenWith, quotingStates, stateTakesQuote}
-use Rattle.row.specs.Changes.{changed, widened, sidesChanges, quoteChanges}
+use Rattle.row.specs.Fields.{rowSize, sidesOf, priceOf, numbersOf, sideTimeOf, seenWith, quotingStates, stateTakesQuote}
+use Rattle.row.specs.Changes.{changed, widened, sidesChanges, timesChanges, quoteChanges}
 use Rattle.row.specs.declared.Sides.the-variants.{One}
 use Rattle.row.specs.declared.Quote.{Quote}
 
@@ -40,11 +40,11 @@ abbrev row-after : List ℕ
 row-after = changed (quoteChanges (bid (short.Above 125)) (replicate rowSize 0)) (replicate rowSize 0)
 
 bid-seen : sidesOf row-after ≡ 1
-unfolding changed quoteChanges sidesChanges seenWith overlay part digits value bytesFor
+unfolding changed quoteChanges sidesChanges timesChanges seenWith overlay part digits value bytesFor
 bid-seen = refl
 
 bid-price : priceOf Bid row-after ≡ Above 12_500
-unfolding priceFrom changed quoteChanges sidesChanges seenWith overlay part digits value bytesFor
+unfolding priceFrom changed quoteChanges sidesChanges timesChanges seenWith overlay part digits value bytesFor
 bid-price = refl
 
 -- then nobody bids: the side stays seen, and its price is none (W-206)
@@ -52,16 +52,25 @@ abbrev row-none : List ℕ
 row-none = changed (quoteChanges (bid short.None) row-after) row-after
 
 none-seen : sidesOf row-none ≡ 1
-unfolding changed quoteChanges sidesChanges seenWith overlay part digits value bytesFor
+unfolding changed quoteChanges sidesChanges timesChanges seenWith overlay part digits value bytesFor
 none-seen = refl
 
 none-price : priceOf Bid row-none ≡ None
-unfolding priceFrom changed quoteChanges sidesChanges seenWith overlay part digits value bytesFor
+unfolding priceFrom changed quoteChanges sidesChanges timesChanges seenWith overlay part digits value bytesFor
 none-price = refl
 
 ask-left : numbersOf Ask row-after ≡ replicate 20 0
-unfolding changed quoteChanges sidesChanges seenWith overlay part digits value bytesFor
+unfolding changed quoteChanges sidesChanges timesChanges seenWith overlay part digits value bytesFor
 ask-left = refl
+
+-- the bid's time is the message's, and the ask's is zero, since it is unseen (W-209)
+bid-time : sideTimeOf Bid row-after ≡ 2
+unfolding changed quoteChanges sidesChanges timesChanges seenWith overlay part digits value bytesFor
+bid-time = refl
+
+ask-time : sideTimeOf Ask row-after ≡ 0
+unfolding changed quoteChanges sidesChanges timesChanges seenWith overlay part digits value bytesFor
+ask-time = refl
 
 -- W-201: before any state no quote is taken, and of B S H T I O R X, in B, S and T
 quoting : map stateTakesQuote (0 ∷ states) ≡ false ∷ true ∷ true ∷ false ∷ true ∷ false ∷ false ∷ false ∷ false ∷ []

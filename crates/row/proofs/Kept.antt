@@ -25,19 +25,20 @@ use Rattle.message.specs.declared.TradingAction.{TradingAction}
 use Rattle.message.specs.declared.Texts.{Texts}
 use Rattle.message.proofs.Layouts.{values-back, values-in-part, rowsIn}
 use Rattle.message.proofs.Typed.{listed-below}
-use Rattle.row.specs.Fields.{rowSize, entryOf, other, stateOf, conditionOf, sidesOf, sideAt, numbersOf, amountOf, timeOf, hasSeen, seenWith}
-use Rattle.row.specs.Changes.{Change, change, changed, places, outside, entryChange, stateChange, conditionChange, seenChange, numbersChange, stampChange, purge, purgeFor, sidesChanges, directoryChanges, newRow, actionChanges, quotedBy}
+use Rattle.row.specs.Fields.{rowSize, entryOf, other, stateOf, conditionOf, sidesOf, sideAt, numbersOf, amountOf, timeOf, sideTimeAt, sideTimeOf, unknownTime, hasSeen, seenWith}
+use Rattle.row.specs.Changes.{Change, change, changed, places, outside, entryChange, stateChange, conditionChange, seenChange, numbersChange, stampChange, timesChanges, ownChanges, purge, purgeFor, sidesChanges, directoryChanges, newRow, actionChanges, quotedBy}
 use Rattle.row.specs.Changes as changes
-use Rattle.row.specs.Rules.{entryKeeps, marksKeep, sideKeeps, bareKeeps, stampKeeps, spareKeeps, rowKeeps}
+use Rattle.row.specs.Rules.{entryKeeps, marksKeep, sideKeeps, bareKeeps, stampKeeps, spareKeeps, commonKeeps, newest, sideTimeKeeps, timesKeep, rowKeeps}
 use Rattle.row.specs.declared.Sides.{Sides}
 use Rattle.row.specs.declared.Sides.the-variants.{One, Both}
 use Rattle.row.proofs.Changed.{Wide, inside, part-kept, part-put}
 use Rattle.row.proofs.Exactly.{entry-wide}
-use Rattle.row.proofs.Quoted.{Stands, put-amount, unquoted-clash, quoted-stands}
+use Rattle.row.proofs.Quoted.{Stands, put-amount, unquoted-clash, quoted-stands, TimeStands, put-time, quoted-timed}
 
 -- ---- the rules one by one
 
-pub record RowKept (r : List ℕ) : Type 0 where
+-- what every version asks
+pub record Common (r : List ℕ) : Type 0 where
   pub entry : entryKeeps r ≡ true
   pub state : listed (0 ∷ states) (stateOf r) ≡ true
   pub condition : listed conditions (conditionOf r) ≡ true
@@ -48,13 +49,13 @@ pub record RowKept (r : List ℕ) : Type 0 where
   pub stamp : stampKeeps r ≡ true
   pub spare : spareKeeps r ≡ true
 
-pub keeps-of : (r : List ℕ) → RowKept r → rowKeeps r ≡ true
-unfolding rowKeeps marksKeep
-keeps-of r k = rw (k .entry, k .state, k .condition, k .sides, k .bid, k .ask, k .bare, k .stamp) (k .spare)
+pub common-of : (r : List ℕ) → Common r → commonKeeps r ≡ true
+unfolding commonKeeps marksKeep
+common-of r k = rw (k .entry, k .state, k .condition, k .sides, k .bid, k .ask, k .bare, k .stamp) (k .spare)
 
-pub kept-of : (r : List ℕ) → rowKeeps r ≡ true → RowKept r
-unfolding rowKeeps marksKeep
-kept-of r k =
+pub of-common : (r : List ℕ) → commonKeeps r ≡ true → Common r
+unfolding commonKeeps marksKeep
+of-common r k =
     let a = entryKeeps r in
     let s = listed (0 ∷ states) (stateOf r) in
     let c = listed conditions (conditionOf r) in
@@ -77,6 +78,26 @@ kept-of r k =
       spare = both-right (stampKeeps r) (spareKeeps r) t6;
     }
 
+-- and the rules of a row of version 3: a row of a table
+pub record RowKept (r : List ℕ) : Type 0 where
+  pub common : Common r
+  pub bid-time : sideTimeKeeps Bid r ≡ true
+  pub ask-time : sideTimeKeeps Ask r ≡ true
+
+pub keeps-of : (r : List ℕ) → RowKept r → rowKeeps newest r ≡ true
+unfolding rowKeeps timesKeep
+keeps-of r k = rw (common-of r (k .common), k .bid-time) (k .ask-time)
+
+pub kept-of : (r : List ℕ) → rowKeeps newest r ≡ true → RowKept r
+unfolding rowKeeps timesKeep
+kept-of r k =
+    let t = both-right (commonKeeps r) (sideTimeKeeps Bid r && sideTimeKeeps Ask r) k in
+    record {
+      common = of-common r (both-left (commonKeeps r) (sideTimeKeeps Bid r && sideTimeKeeps Ask r) k);
+      bid-time = both-left (sideTimeKeeps Bid r) (sideTimeKeeps Ask r) t;
+      ask-time = both-right (sideTimeKeeps Bid r) (sideTimeKeeps Ask r) t;
+    }
+
 -- ---- what each rule looks at
 
 -- a byte that is put is read back
@@ -90,18 +111,23 @@ module _ (r r′ : List ℕ) where
       ap (keepsAll entryRows)
       (sym (values-in-part 0 entrySize entryRows r′ refl) ∙ ap (values (from 0 entryRows)) e ∙ values-in-part 0 entrySize entryRows r refl)
 
-  side-same : (side : Side) → hasSeen side (sidesOf r′) ≡ hasSeen side (sidesOf r) → numbersOf side r′ ≡ numbersOf side r → sideKeeps side r′ ≡ sideKeeps side r
+  pub side-same : (side : Side) → hasSeen side (sidesOf r′) ≡ hasSeen side (sidesOf r) → numbersOf side r′ ≡ numbersOf side r → sideKeeps side r′ ≡ sideKeeps side r
   unfolding sideKeeps
   side-same side e f =
       let p : amountOf side r′ ≡ amountOf side r
       = ap be (sym (part-part r′ (sideAt side) 20 4 4 (omega arith)) ∙ ap (λ (x : List ℕ). part x 4 4) f ∙ part-part r (sideAt side) 20 4 4 (omega arith)) in
       rw (e, f, p)
 
-  spare-same : part r′ 55 1 ≡ part r 55 1 → part r′ 106 18 ≡ part r 106 18 → spareKeeps r′ ≡ spareKeeps r
+  pub spare-same : part r′ 55 1 ≡ part r 55 1 → part r′ 122 2 ≡ part r 122 2 → spareKeeps r′ ≡ spareKeeps r
   unfolding spareKeeps
   spare-same e f = rw (e, f)
 
-  bare-same : part r′ 53 1 ≡ part r 53 1 → part r′ 54 1 ≡ part r 54 1 → bareKeeps r′ ≡ bareKeeps r
+  time-same : (side : Side) → hasSeen side (sidesOf r′) ≡ hasSeen side (sidesOf r) → part r′ (sideTimeAt side) 8 ≡ part r (sideTimeAt side) 8
+      → sideTimeKeeps side r′ ≡ sideTimeKeeps side r
+  unfolding sideTimeKeeps
+  time-same side e f = rw (e, f)
+
+  pub bare-same : part r′ 53 1 ≡ part r 53 1 → part r′ 54 1 ≡ part r 54 1 → bareKeeps r′ ≡ bareKeeps r
   unfolding bareKeeps
   bare-same e f = rw (e, f)
 
@@ -128,6 +154,22 @@ stamp-put r s t e =
     let f : part r 98 8 ≡ bytesBe 8 (s .time) = sym (part-part r 96 10 2 8 (omega arith)) ∙ ap (λ (x : List ℕ). part x 2 8) e in
     let g : timeOf r ≡ s .time = ap be f ∙ value-digits 256 (lit< tt) 8 (s .time) (omega (arith, leb-true (s .time) latestTime t)) in
     rw g t
+
+-- the time of a side that is seen is put, or is zero with that of a side that is not
+or-first : (a b : Bool) → a ≡ true → a || b ≡ true
+or-first a b e = rw e
+
+time-put : (r : List ℕ) (side : Side) (time : ℕ) → hasSeen side (sidesOf r) ≡ true → timeInRange time ≡ true → TimeStands r side time → sideTimeKeeps side r ≡ true
+unfolding sideTimeKeeps
+time-put r side time s t e = rw (s, put-time r side time t e) (or-first (timeInRange time) (eqb time unknownTime) t)
+
+time-zero : (r : List ℕ) (side : Side) → part r (sideTimeAt side) 8 ≡ replicate 8 0 → sideTimeKeeps side r ≡ true
+unfolding sideTimeKeeps value
+time-zero r side e = rw (ap be e) (either (hasSeen side (sidesOf r)))
+  where
+    either : (b : Bool) → cond b (timeInRange 0 || eqb 0 unknownTime) (eqb 0 0) ≡ true
+    either true = refl
+    either false = refl
 
 -- the sides seen, and one more of them
 module _ where
@@ -159,7 +201,7 @@ PricesIn (Both bid ask) = (priceInRange (amount (bid .price)) ≡ true) × (pric
 
 module _ (c : ℕ) (s : Stamp) (r : List ℕ) (long : rowSize ≤ length r) (hc : listed conditions c ≡ true) (ht : timeInRange (s .time) ≡ true) (k : RowKept r) where
   few : sidesOf r ≤ 3
-  few = leb-true (sidesOf r) 3 (k .sides)
+  few = leb-true (sidesOf r) 3 (k .common .sides)
 
   -- what every quote's changes leave and put
   record Quoted (r′ : List ℕ) (sides : ℕ) : Type 0 where
@@ -169,25 +211,30 @@ module _ (c : ℕ) (s : Stamp) (r : List ℕ) (long : rowSize ≤ length r) (hc 
     seen : part r′ 54 1 ≡ bytesBe 1 sides
     gap : part r′ 55 1 ≡ part r 55 1
     stamp : part r′ 96 10 ≡ bytesFor stampRows (stampFields s)
-    tail : part r′ 106 18 ≡ part r 106 18
+    tail : part r′ 122 2 ≡ part r 122 2
 
   quoted-sides : {r′ : List ℕ} {sides : ℕ} → Quoted r′ sides → sides ≤ 3 → sidesOf r′ ≡ sides
   quoted-sides {r′} {sides} q h = one-back r′ 54 sides (omega arith) (q .seen)
 
-  quoted-kept : (r′ : List ℕ) (sides : ℕ) → Quoted r′ sides → sides ≤ 3 → eqb sides 0 ≡ false → sideKeeps Bid r′ ≡ true → sideKeeps Ask r′ ≡ true → RowKept r′
+  quoted-kept : (r′ : List ℕ) (sides : ℕ) → Quoted r′ sides → sides ≤ 3 → eqb sides 0 ≡ false → sideKeeps Bid r′ ≡ true → sideKeeps Ask r′ ≡ true
+      → sideTimeKeeps Bid r′ ≡ true → sideTimeKeeps Ask r′ ≡ true → RowKept r′
   unfolding bareKeeps every
-  quoted-kept r′ sides q h n b a =
+  quoted-kept r′ sides q h n b a bt at =
       let w : sidesOf r′ ≡ sides = quoted-sides q h in
       record {
-        entry = entry-same r r′ (q .entry) ∙ k .entry;
-        state = ap (λ (x : List ℕ). listed (0 ∷ states) (be x)) (q .state) ∙ k .state;
-        condition = ap (listed conditions) (one-back r′ 53 c (listed-below conditions c refl hc) (q .condition)) ∙ hc;
-        sides = ap (λ (x : ℕ). leb x 3) w ∙ le-leb sides 3 h;
-        bid = b;
-        ask = a;
-        bare = rw (w, n);
-        stamp = stamp-put r′ s ht (q .stamp);
-        spare = spare-same r r′ (q .gap) (q .tail) ∙ k .spare;
+        common = record {
+          entry = entry-same r r′ (q .entry) ∙ k .common .entry;
+          state = ap (λ (x : List ℕ). listed (0 ∷ states) (be x)) (q .state) ∙ k .common .state;
+          condition = ap (listed conditions) (one-back r′ 53 c (listed-below conditions c refl hc) (q .condition)) ∙ hc;
+          sides = ap (λ (x : ℕ). leb x 3) w ∙ le-leb sides 3 h;
+          bid = b;
+          ask = a;
+          bare = rw (w, n);
+          stamp = stamp-put r′ s ht (q .stamp);
+          spare = spare-same r r′ (q .gap) (q .tail) ∙ k .common .spare;
+        };
+        bid-time = bt;
+        ask-time = at;
       }
 
   -- the changes of a quote, with the numbers of its own side or sides last
@@ -198,7 +245,7 @@ module _ (c : ℕ) (s : Stamp) (r : List ℕ) (long : rowSize ≤ length r) (hc 
   abbrev Clear : List Change → Type 0
   Clear nums =
       (outside 0 entrySize (places nums) ≡ true) × (outside 52 1 (places nums) ≡ true) × (outside 53 1 (places nums) ≡ true) × (outside 54 1 (places nums) ≡ true)
-      × (outside 55 1 (places nums) ≡ true) × (outside 96 10 (places nums) ≡ true) × (outside 106 18 (places nums) ≡ true)
+      × (outside 55 1 (places nums) ≡ true) × (outside 96 10 (places nums) ≡ true) × (outside 122 2 (places nums) ≡ true)
 
   module _ (sides : ℕ) (nums : List Change) (wide : Wide nums) (within : inside rowSize nums ≡ true) (clear : Clear nums) where
     all-wide : Wide (quotes sides nums)
@@ -220,47 +267,61 @@ module _ (c : ℕ) (s : Stamp) (r : List ℕ) (long : rowSize ≤ length r) (hc 
           seen = part-put (conditionChange c ∷ stampChange s ∷ []) (seenChange sides) nums r rowSize all-wide long all-inside (clear .3);
           gap = part-kept cs r rowSize 55 1 all-wide long all-inside (clear .4);
           stamp = part-put (conditionChange c ∷ []) (stampChange s) (seenChange sides ∷ nums) r rowSize all-wide long all-inside (clear .5);
-          tail = part-kept cs r rowSize 106 18 all-wide long all-inside (clear .6);
+          tail = part-kept cs r rowSize 122 2 all-wide long all-inside (clear .6);
         }
 
     -- of a side that is left
-    numbers-left : (at : ℕ) → outside at 20 (places (quotes sides nums)) ≡ true → part (changed (quotes sides nums) r) at 20 ≡ part r at 20
-    numbers-left at o = part-kept (quotes sides nums) r rowSize at 20 all-wide long all-inside o
+    left-there : (at n : ℕ) → outside at n (places (quotes sides nums)) ≡ true → part (changed (quotes sides nums) r) at n ≡ part r at n
+    left-there at n o = part-kept (quotes sides nums) r rowSize at n all-wide long all-inside o
 
   -- THEOREM: a quote keeps the row rules
-  pub quote-keeps : (sides : Sides) → PricesIn sides → RowKept (changed (conditionChange c ∷ stampChange s ∷ sidesChanges sides (sidesOf r)) r)
-  unfolding sidesChanges digits bytesFor inside outside
+  pub quote-keeps : (sides : Sides) → PricesIn sides → RowKept (changed (conditionChange c ∷ stampChange s ∷ ownChanges sides (sidesOf r) (s .time)) r)
+  unfolding sidesChanges timesChanges digits bytesFor inside outside
   quote-keeps (One Bid n) p =
       let e = seen Bid (sidesOf r) few in
-      let nums : List Change = numbersChange 56 n ∷ [] in
+      let nums : List Change = numbersChange 56 n ∷ timesChanges (One Bid n) (s .time) in
       let sides = seenWith Bid (sidesOf r) in
+      let r′ : List ℕ = changed (quotes sides nums) r in
+      let w : Wide nums = (refl, (refl, tt)) in
       let clear : Clear nums = (refl, refl, refl, refl, refl, refl, refl) in
-      let q = quoted sides nums (refl, tt) refl clear in
+      let q = quoted sides nums w refl clear in
       let v = quoted-sides q (e .few) in
-      quoted-kept (changed (quotes sides nums) r) sides q (e .few) (e .some)
-      (side-put (changed (quotes sides nums) r) Bid n (ap (hasSeen Bid) v ∙ e .own) p (quoted-stands c s r long (One Bid n) Bid n refl))
-      (side-same r (changed (quotes sides nums) r) Ask (ap (hasSeen Ask) v ∙ e .rest) (numbers-left sides nums (refl, tt) refl clear 76 refl) ∙ k .ask)
+      quoted-kept r′ sides q (e .few) (e .some)
+      (side-put r′ Bid n (ap (hasSeen Bid) v ∙ e .own) p (quoted-stands c s r long (One Bid n) Bid n refl))
+      (side-same r r′ Ask (ap (hasSeen Ask) v ∙ e .rest) (left-there sides nums w refl clear 76 20 refl) ∙ k .common .ask)
+      (time-put r′ Bid (s .time) (ap (hasSeen Bid) v ∙ e .own) ht (quoted-timed c s r long (One Bid n) Bid n refl))
+      (time-same r r′ Ask (ap (hasSeen Ask) v ∙ e .rest) (left-there sides nums w refl clear 114 8 refl) ∙ k .ask-time)
   quote-keeps (One Ask n) p =
       let e = seen Ask (sidesOf r) few in
-      let nums : List Change = numbersChange 76 n ∷ [] in
+      let nums : List Change = numbersChange 76 n ∷ timesChanges (One Ask n) (s .time) in
       let sides = seenWith Ask (sidesOf r) in
+      let r′ : List ℕ = changed (quotes sides nums) r in
+      let w : Wide nums = (refl, (refl, tt)) in
       let clear : Clear nums = (refl, refl, refl, refl, refl, refl, refl) in
-      let q = quoted sides nums (refl, tt) refl clear in
+      let q = quoted sides nums w refl clear in
       let v = quoted-sides q (e .few) in
-      quoted-kept (changed (quotes sides nums) r) sides q (e .few) (e .some)
-      (side-same r (changed (quotes sides nums) r) Bid (ap (hasSeen Bid) v ∙ e .rest) (numbers-left sides nums (refl, tt) refl clear 56 refl) ∙ k .bid)
-      (side-put (changed (quotes sides nums) r) Ask n (ap (hasSeen Ask) v ∙ e .own) p (quoted-stands c s r long (One Ask n) Ask n refl))
+      quoted-kept r′ sides q (e .few) (e .some)
+      (side-same r r′ Bid (ap (hasSeen Bid) v ∙ e .rest) (left-there sides nums w refl clear 56 20 refl) ∙ k .common .bid)
+      (side-put r′ Ask n (ap (hasSeen Ask) v ∙ e .own) p (quoted-stands c s r long (One Ask n) Ask n refl))
+      (time-same r r′ Bid (ap (hasSeen Bid) v ∙ e .rest) (left-there sides nums w refl clear 106 8 refl) ∙ k .bid-time)
+      (time-put r′ Ask (s .time) (ap (hasSeen Ask) v ∙ e .own) ht (quoted-timed c s r long (One Ask n) Ask n refl))
   quote-keeps (Both bid ask) p =
       let d = seen Bid (sidesOf r) few in
       let e = seen Ask (seenWith Bid (sidesOf r)) (d .few) in
-      let nums : List Change = numbersChange 56 bid ∷ numbersChange 76 ask ∷ [] in
+      let nums : List Change = numbersChange 56 bid ∷ numbersChange 76 ask ∷ timesChanges (Both bid ask) (s .time) in
       let sides = seenWith Ask (seenWith Bid (sidesOf r)) in
+      let r′ : List ℕ = changed (quotes sides nums) r in
+      let w : Wide nums = (refl, (refl, (refl, (refl, tt)))) in
       let clear : Clear nums = (refl, refl, refl, refl, refl, refl, refl) in
-      let q = quoted sides nums (refl, (refl, tt)) refl clear in
+      let q = quoted sides nums w refl clear in
       let v = quoted-sides q (e .few) in
-      quoted-kept (changed (quotes sides nums) r) sides q (e .few) (e .some)
-      (side-put (changed (quotes sides nums) r) Bid bid (ap (hasSeen Bid) v ∙ e .rest ∙ d .own) (p .0) (quoted-stands c s r long (Both bid ask) Bid bid refl))
-      (side-put (changed (quotes sides nums) r) Ask ask (ap (hasSeen Ask) v ∙ e .own) (p .1) (quoted-stands c s r long (Both bid ask) Ask ask refl))
+      let own-bid : hasSeen Bid (sidesOf r′) ≡ true = ap (hasSeen Bid) v ∙ e .rest ∙ d .own in
+      let own-ask : hasSeen Ask (sidesOf r′) ≡ true = ap (hasSeen Ask) v ∙ e .own in
+      quoted-kept r′ sides q (e .few) (e .some)
+      (side-put r′ Bid bid own-bid (p .0) (quoted-stands c s r long (Both bid ask) Bid bid refl))
+      (side-put r′ Ask ask own-ask (p .1) (quoted-stands c s r long (Both bid ask) Ask ask refl))
+      (time-put r′ Bid (s .time) own-bid ht (quoted-timed c s r long (Both bid ask) Bid bid refl))
+      (time-put r′ Ask (s .time) own-ask ht (quoted-timed c s r long (Both bid ask) Ask ask refl))
 
   -- the sum of the sides seen, after changes that clear it
   sum-after : (sides : ℕ) (nums : List Change) → Wide nums → inside rowSize nums ≡ true → Clear nums → sides ≤ 3
@@ -269,21 +330,21 @@ module _ (c : ℕ) (s : Stamp) (r : List ℕ) (long : rowSize ≤ length r) (hc 
 
   -- THEOREM: a side that a quote sets is seen after it
   pub quote-seen : (sides : Sides) (side : Side) (n : LongNumbers) → quotedBy sides side ≡ changes.quoted n
-      → hasSeen side (sidesOf (changed (conditionChange c ∷ stampChange s ∷ sidesChanges sides (sidesOf r)) r)) ≡ true
-  unfolding sidesChanges digits bytesFor inside outside
+      → hasSeen side (sidesOf (changed (conditionChange c ∷ stampChange s ∷ ownChanges sides (sidesOf r) (s .time)) r)) ≡ true
+  unfolding sidesChanges timesChanges digits bytesFor inside outside
   quote-seen (One Bid m) Bid n e =
       let d = seen Bid (sidesOf r) few in
-      ap (hasSeen Bid) (sum-after (seenWith Bid (sidesOf r)) (numbersChange 56 m ∷ []) (refl, tt) refl (refl, refl, refl, refl, refl, refl, refl) (d .few)) ∙ d .own
+      ap (hasSeen Bid) (sum-after (seenWith Bid (sidesOf r)) (numbersChange 56 m ∷ timesChanges (One Bid m) (s .time)) (refl, (refl, tt)) refl (refl, refl, refl, refl, refl, refl, refl) (d .few)) ∙ d .own
   quote-seen (One Bid m) Ask n e = unquoted-clash e
   quote-seen (One Ask m) Bid n e = unquoted-clash e
   quote-seen (One Ask m) Ask n e =
       let d = seen Ask (sidesOf r) few in
-      ap (hasSeen Ask) (sum-after (seenWith Ask (sidesOf r)) (numbersChange 76 m ∷ []) (refl, tt) refl (refl, refl, refl, refl, refl, refl, refl) (d .few)) ∙ d .own
+      ap (hasSeen Ask) (sum-after (seenWith Ask (sidesOf r)) (numbersChange 76 m ∷ timesChanges (One Ask m) (s .time)) (refl, (refl, tt)) refl (refl, refl, refl, refl, refl, refl, refl) (d .few)) ∙ d .own
   quote-seen (Both bid ask) side n e =
       let d = seen Bid (sidesOf r) few in
       let f = seen Ask (seenWith Bid (sidesOf r)) (d .few) in
       ap (hasSeen side)
-      (sum-after (seenWith Ask (seenWith Bid (sidesOf r))) (numbersChange 56 bid ∷ numbersChange 76 ask ∷ []) (refl, (refl, tt)) refl (refl, refl, refl, refl, refl, refl, refl) (f .few))
+      (sum-after (seenWith Ask (seenWith Bid (sidesOf r))) (numbersChange 56 bid ∷ numbersChange 76 ask ∷ timesChanges (Both bid ask) (s .time)) (refl, (refl, (refl, (refl, tt)))) refl (refl, refl, refl, refl, refl, refl, refl) (f .few))
       ∙ by side
     where
       by : (x : Side) → hasSeen x (seenWith Ask (seenWith Bid (sidesOf r))) ≡ true
@@ -308,15 +369,19 @@ action-keeps a r long hs ht k =
     let v : sidesOf r′ ≡ sidesOf r = ap be (left 54 1 refl) in
     let s : stateOf r′ ≡ a .state = one-back r′ 52 (a .state) (listed-below states (a .state) refl hs) (part-put [] (stateChange (a .state)) (stampChange (a .stamp) ∷ []) r rowSize w long refl refl) in
     record {
-      entry = entry-same r r′ (left 0 entrySize refl) ∙ k .entry;
-      state = ap (listed (0 ∷ states)) s ∙ ap (λ (b : Bool). cond (eqb 0 (a .state)) true b) hs ∙ first-true (eqb 0 (a .state));
-      condition = ap (λ (x : List ℕ). listed conditions (be x)) (left 53 1 refl) ∙ k .condition;
-      sides = ap (λ (x : ℕ). leb x 3) v ∙ k .sides;
-      bid = side-same r r′ Bid (ap (hasSeen Bid) v) (left 56 20 refl) ∙ k .bid;
-      ask = side-same r r′ Ask (ap (hasSeen Ask) v) (left 76 20 refl) ∙ k .ask;
-      bare = bare-same r r′ (left 53 1 refl) (left 54 1 refl) ∙ k .bare;
-      stamp = stamp-put r′ (a .stamp) ht (part-put (stateChange (a .state) ∷ []) (stampChange (a .stamp)) [] r rowSize w long refl refl);
-      spare = spare-same r r′ (left 55 1 refl) (left 106 18 refl) ∙ k .spare;
+      common = record {
+        entry = entry-same r r′ (left 0 entrySize refl) ∙ k .common .entry;
+        state = ap (listed (0 ∷ states)) s ∙ ap (λ (b : Bool). cond (eqb 0 (a .state)) true b) hs ∙ first-true (eqb 0 (a .state));
+        condition = ap (λ (x : List ℕ). listed conditions (be x)) (left 53 1 refl) ∙ k .common .condition;
+        sides = ap (λ (x : ℕ). leb x 3) v ∙ k .common .sides;
+        bid = side-same r r′ Bid (ap (hasSeen Bid) v) (left 56 20 refl) ∙ k .common .bid;
+        ask = side-same r r′ Ask (ap (hasSeen Ask) v) (left 76 20 refl) ∙ k .common .ask;
+        bare = bare-same r r′ (left 53 1 refl) (left 54 1 refl) ∙ k .common .bare;
+        stamp = stamp-put r′ (a .stamp) ht (part-put (stateChange (a .state) ∷ []) (stampChange (a .stamp)) [] r rowSize w long refl refl);
+        spare = spare-same r r′ (left 55 1 refl) (left 122 2 refl) ∙ k .common .spare;
+      };
+      bid-time = time-same r r′ Bid (ap (hasSeen Bid) v) (left 106 8 refl) ∙ k .bid-time;
+      ask-time = time-same r r′ Ask (ap (hasSeen Ask) v) (left 114 8 refl) ∙ k .ask-time;
     }
 
 -- ---- a directory
@@ -338,23 +403,29 @@ module _ (d : Directory) (t : Texts) (fit : Fit instrumentRows (instrumentFields
 
   -- a row with no quotes
   bare-kept : (r : List ℕ) → entryOf r ≡ entryBytes → listed (0 ∷ states) (stateOf r) ≡ true → part r 53 1 ≡ bytesBe 1 32
-      → part r 54 42 ≡ replicate 42 0 → part r 96 10 ≡ bytesFor stampRows (stampFields (d .stamp)) → every isZero (part r 106 18) ≡ true → RowKept r
+      → part r 54 42 ≡ replicate 42 0 → part r 96 10 ≡ bytesFor stampRows (stampFields (d .stamp)) → part r 106 16 ≡ replicate 16 0
+      → every isZero (part r 122 2) ≡ true → RowKept r
   unfolding bareKeeps spareKeeps listed every part value
-  bare-kept r e s c z m f =
+  bare-kept r e s c z m y f =
       let v : conditionOf r ≡ 32 = one-back r 53 32 (lit< tt) c in
       let inner : (i n : ℕ) → i + n ≤ 42 → part r (54 + i) n ≡ part (replicate 42 0) i n = λ i n h. sym (part-part r 54 42 i n h) ∙ ap (λ (x : List ℕ). part x i n) z in
       let u : sidesOf r ≡ 0 = ap be (inner 0 1 (omega arith)) in
       let g : every isZero (part r 55 1) ≡ true = ap (every isZero) (inner 1 1 (omega arith)) in
+      let time : (i : ℕ) → i + 8 ≤ 16 → part r (106 + i) 8 ≡ part (replicate 16 0) i 8 = λ i h. sym (part-part r 106 16 i 8 h) ∙ ap (λ (x : List ℕ). part x i 8) y in
       record {
-        entry = entry-put r e;
-        state = s;
-        condition = ap (listed conditions) v;
-        sides = ap (λ (x : ℕ). leb x 3) u;
-        bid = side-zero r Bid (inner 2 20 (omega arith));
-        ask = side-zero r Ask (inner 22 20 (omega arith));
-        bare = rw (u, v);
-        stamp = stamp-put r (d .stamp) ht m;
-        spare = rw (g, f);
+        common = record {
+          entry = entry-put r e;
+          state = s;
+          condition = ap (listed conditions) v;
+          sides = ap (λ (x : ℕ). leb x 3) u;
+          bid = side-zero r Bid (inner 2 20 (omega arith));
+          ask = side-zero r Ask (inner 22 20 (omega arith));
+          bare = rw (u, v);
+          stamp = stamp-put r (d .stamp) ht m;
+          spare = rw (g, f);
+        };
+        bid-time = time-zero r Bid (time 0 (omega arith));
+        ask-time = time-zero r Ask (time 8 (omega arith));
       }
 
   abbrev known : List Change
@@ -370,15 +441,19 @@ module _ (d : Directory) (t : Texts) (fit : Fit instrumentRows (instrumentFields
         let left : (i m : ℕ) → outside i m (places known) ≡ true → part r′ i m ≡ part r i m = λ i m o. part-kept known r rowSize i m w long refl o in
         let v : sidesOf r′ ≡ sidesOf r = ap be (left 54 1 refl) in
         record {
-          entry = entry-put r′ (part-put [] (entryChange (d .instrument) t) (stampChange (d .stamp) ∷ []) r rowSize w long refl refl);
-          state = ap (λ (x : List ℕ). listed (0 ∷ states) (be x)) (left 52 1 refl) ∙ k .state;
-          condition = ap (λ (x : List ℕ). listed conditions (be x)) (left 53 1 refl) ∙ k .condition;
-          sides = ap (λ (x : ℕ). leb x 3) v ∙ k .sides;
-          bid = side-same r r′ Bid (ap (hasSeen Bid) v) (left 56 20 refl) ∙ k .bid;
-          ask = side-same r r′ Ask (ap (hasSeen Ask) v) (left 76 20 refl) ∙ k .ask;
-          bare = bare-same r r′ (left 53 1 refl) (left 54 1 refl) ∙ k .bare;
-          stamp = stamp-put r′ (d .stamp) ht (part-put (entryChange (d .instrument) t ∷ []) (stampChange (d .stamp)) [] r rowSize w long refl refl);
-          spare = spare-same r r′ (left 55 1 refl) (left 106 18 refl) ∙ k .spare;
+          common = record {
+            entry = entry-put r′ (part-put [] (entryChange (d .instrument) t) (stampChange (d .stamp) ∷ []) r rowSize w long refl refl);
+            state = ap (λ (x : List ℕ). listed (0 ∷ states) (be x)) (left 52 1 refl) ∙ k .common .state;
+            condition = ap (λ (x : List ℕ). listed conditions (be x)) (left 53 1 refl) ∙ k .common .condition;
+            sides = ap (λ (x : ℕ). leb x 3) v ∙ k .common .sides;
+            bid = side-same r r′ Bid (ap (hasSeen Bid) v) (left 56 20 refl) ∙ k .common .bid;
+            ask = side-same r r′ Ask (ap (hasSeen Ask) v) (left 76 20 refl) ∙ k .common .ask;
+            bare = bare-same r r′ (left 53 1 refl) (left 54 1 refl) ∙ k .common .bare;
+            stamp = stamp-put r′ (d .stamp) ht (part-put (entryChange (d .instrument) t ∷ []) (stampChange (d .stamp)) [] r rowSize w long refl refl);
+            spare = spare-same r r′ (left 55 1 refl) (left 122 2 refl) ∙ k .common .spare;
+          };
+          bid-time = time-same r r′ Bid (ap (hasSeen Bid) v) (left 106 8 refl) ∙ k .bid-time;
+          ask-time = time-same r r′ Ask (ap (hasSeen Ask) v) (left 114 8 refl) ∙ k .ask-time;
         }
 
     -- tradable N: the quotes are purged
@@ -386,14 +461,18 @@ module _ (d : Directory) (t : Texts) (fit : Fit instrumentRows (instrumentFields
     unfolding digits bytesFor inside outside spareKeeps
     purged-quotes =
         let cs : List Change = known ++ purge in
-        let w : Wide cs = (entry-wide d t fit, (refl, (refl, (refl, tt)))) in
+        let w : Wide cs = (entry-wide d t fit, (refl, (refl, (refl, (refl, tt))))) in
         let r′ : List ℕ = changed cs r in
+        let space : Change = change 53 1 (bytesBe 1 32) in
+        let sides : Change = change 54 42 (replicate 42 0) in
+        let times : Change = change 106 16 (replicate 16 0) in
         bare-kept r′ (part-put [] (entryChange (d .instrument) t) (stampChange (d .stamp) ∷ purge) r rowSize w long refl refl)
-        (ap (λ (x : List ℕ). listed (0 ∷ states) (be x)) (part-kept cs r rowSize 52 1 w long refl refl) ∙ k .state)
-        (part-put known (change 53 1 (bytesBe 1 32)) (change 54 42 (replicate 42 0) ∷ []) r rowSize w long refl refl)
-        (part-put (known ++ (change 53 1 (bytesBe 1 32) ∷ [])) (change 54 42 (replicate 42 0)) [] r rowSize w long refl refl)
+        (ap (λ (x : List ℕ). listed (0 ∷ states) (be x)) (part-kept cs r rowSize 52 1 w long refl refl) ∙ k .common .state)
+        (part-put known space (sides ∷ times ∷ []) r rowSize w long refl refl)
+        (part-put (known ++ (space ∷ [])) sides (times ∷ []) r rowSize w long refl refl)
         (part-put (entryChange (d .instrument) t ∷ []) (stampChange (d .stamp)) purge r rowSize w long refl refl)
-        (ap (every isZero) (part-kept cs r rowSize 106 18 w long refl refl) ∙ both-right (every isZero (part r 55 1)) (every isZero (part r 106 18)) (k .spare))
+        (part-put (known ++ (space ∷ sides ∷ [])) times [] r rowSize w long refl refl)
+        (ap (every isZero) (part-kept cs r rowSize 122 2 w long refl refl) ∙ both-right (every isZero (part r 55 1)) (every isZero (part r 122 2)) (k .common .spare))
 
     -- THEOREM: a directory for a known id keeps the row rules
     pub directory-keeps : RowKept (changed (directoryChanges d t) r)
@@ -417,4 +496,5 @@ module _ (d : Directory) (t : Texts) (fit : Fit instrumentRows (instrumentFields
       (part-put (entryChange (d .instrument) t ∷ []) (conditionChange 32) (stampChange (d .stamp) ∷ []) zeros rowSize w long refl refl)
       (part-kept cs zeros rowSize 54 42 w long refl refl)
       (part-put (entryChange (d .instrument) t ∷ conditionChange 32 ∷ []) (stampChange (d .stamp)) [] zeros rowSize w long refl refl)
-      (ap (every isZero) (part-kept cs zeros rowSize 106 18 w long refl refl))
+      (part-kept cs zeros rowSize 106 16 w long refl refl)
+      (ap (every isZero) (part-kept cs zeros rowSize 122 2 w long refl refl))

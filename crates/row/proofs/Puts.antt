@@ -2,16 +2,17 @@
 -- Assumes nothing.
 use mathlib.Core.Path.{_≡_, refl, sym, ap, _∙_}
 use mathlib.Core.Bool.{Bool, true, false, cond, _&&_, _||_}
-use mathlib.Core.List.{List, _++_}
-use Prim.Native.Nat.{ℕ, _+_, _/_, _%_}
+use mathlib.Core.List.{List, [], _∷_, _++_}
+use Prim.Native.Nat.{ℕ, _+_, _/_, _%_, _≤_}
 use native.Mathlib.Omega.{arith}
 use borrow.Author.Tests.{eq-eqb, ne-eqb}
 use lib.Dec.{eqb, leb}
 use lib.ListN.{length, replicate, length-append, length-replicate}
-use Rattle.field.specs.Bytes.{part, overlay, be, bytesBe}
-use Rattle.field.specs.Limits.{priceInRange}
+use Rattle.field.specs.Bytes.{part, overlay, digits, be, bytesBe}
+use Rattle.field.specs.Limits.{timeInRange, priceInRange}
 use Rattle.field.specs.Text.{every, isZero}
 use Rattle.field.proofs.Parts.{part-replicate, overlay-own, overlay-whole, overlay-next, overlay-swap}
+use Rattle.field.proofs.Writes.{piece, run-joined}
 use Rattle.message.specs.Layout.{priceFrom, bytesFor, values}
 use Rattle.message.specs.Letters.{listed, states, conditions, stampRows, stampFields, longNumbersRows, longNumbersFields, instrumentRows, instrumentFields}
 use Rattle.message.specs.declared.Price.{Price}
@@ -21,9 +22,10 @@ use Rattle.message.specs.declared.LongNumbers.{LongNumbers}
 use Rattle.message.specs.declared.Directory.{Directory}
 use Rattle.message.specs.declared.TradingAction.{TradingAction}
 use Rattle.message.specs.declared.Texts.{Texts}
-use Rattle.row.specs.Fields.{rowSize, idOf, tradableOf, sideAt, sidesOf, priceOf, hasSeen, weight, seenWith, stateTakesQuote, takesQuote}
-use Rattle.row.specs.Changes.{changed, purge, directoryChanges, newRow, actionChanges, sidesChanges, quoteChanges}
-use Rattle.row.specs.Rules.{marksKeep, sideKeeps}
+use Rattle.row.specs.Fields.{rowSize, idOf, tradableOf, sideAt, sidesOf, priceOf, sideTimeAt, sideTimeOf, unknownTime, hasSeen, weight, seenWith, stateTakesQuote, takesQuote}
+use Rattle.row.specs.Changes.{changed, purge, directoryChanges, newRow, actionChanges, sidesChanges, timesChanges, ownChanges, quoteChanges}
+use Rattle.row.specs.Rules.{marksKeep, sideKeeps, newest, sideTimeKeeps, timesKeep}
+use Rattle.row.specs.Moves.{markOf, marksOf, forwardRow, backRow}
 use Rattle.row.specs.declared.Sides.the-variants.{One, Both}
 use Rattle.row.specs.declared.Quote.{Quote}
 
@@ -65,10 +67,10 @@ ask-told sides i = rw i
 over : (at : ℕ) (bytes : List ℕ) {xs us : List ℕ} → us ≡ xs → overlay us at bytes ≡ overlay xs at bytes
 over at bytes e = ap (λ (l : List ℕ). overlay l at bytes) e
 
-pub purge-put : (xs : List ℕ) {us zs : List ℕ} → us ≡ overlay xs 53 (bytesBe 1 32) → zs ≡ overlay us 54 (replicate 42 0)
-    → zs ≡ changed purge xs
+pub purge-put : (xs : List ℕ) {us vs zs : List ℕ} → us ≡ overlay xs 53 (bytesBe 1 32) → vs ≡ overlay us 54 (replicate 42 0)
+    → zs ≡ overlay vs 106 (replicate 16 0) → zs ≡ changed purge xs
 unfolding changed
-purge-put xs e f = f ∙ over 54 (replicate 42 0) e
+purge-put xs e f g = g ∙ over 106 (replicate 16 0) (f ∙ over 54 (replicate 42 0) e)
 
 pub action-put : (xs : List ℕ) (a : TradingAction) {us zs : List ℕ} → us ≡ overlay xs 52 (bytesBe 1 (a .state))
     → zs ≡ overlay us 96 (bytesFor stampRows (stampFields (a .stamp))) → zs ≡ changed (actionChanges a) xs
@@ -90,9 +92,20 @@ pub both-put : (xs : List ℕ) (bid ask : LongNumbers) (seen : ℕ) {v w : ℕ} 
 unfolding changed sidesChanges
 both-put xs bid ask seen s p q e f g = cc
 
+-- and the times of the sides behind their numbers
+pub one-timed : (xs : List ℕ) (side : Side) (n : LongNumbers) (seen time : ℕ) {us zs : List ℕ} → us ≡ changed (sidesChanges (One side n) seen) xs
+    → zs ≡ overlay us (sideTimeAt side) (bytesBe 8 time) → zs ≡ changed (ownChanges (One side n) seen time) xs
+unfolding changed sidesChanges timesChanges
+one-timed xs side n seen time e f = f ∙ over (sideTimeAt side) (bytesBe 8 time) e
+
+pub both-timed : (xs : List ℕ) (bid ask : LongNumbers) (seen time : ℕ) {us zs : List ℕ} → us ≡ changed (sidesChanges (Both bid ask) seen) xs
+    → zs ≡ overlay (overlay us 106 (bytesBe 8 time)) 114 (bytesBe 8 time) → zs ≡ changed (ownChanges (Both bid ask) seen time) xs
+unfolding changed sidesChanges timesChanges
+both-timed xs bid ask seen time e f = f ∙ over 114 (bytesBe 8 time) (over 106 (bytesBe 8 time) e)
+
 pub quote-put : (xs : List ℕ) (q : Quote) {seen : ℕ} {us vs zs : List ℕ} → seen ≡ be (part xs 54 1)
     → us ≡ overlay xs 53 (bytesBe 1 (q .condition)) → vs ≡ overlay us 96 (bytesFor stampRows (stampFields (q .stamp)))
-    → zs ≡ changed (sidesChanges (q .sides) seen) vs → zs ≡ changed (quoteChanges q xs) xs
+    → zs ≡ changed (ownChanges (q .sides) seen (q .stamp .time)) vs → zs ≡ changed (quoteChanges q xs) xs
 unfolding changed quoteChanges
 quote-put xs q i e f g = cc
 
@@ -167,3 +180,50 @@ pub marks-keep : (xs : List ℕ) {state condition sides : ℕ} {known fine : Boo
     → (eqb 0 state || known) && (fine && leb sides 3) ≡ marksKeep xs
 unfolding marksKeep listed
 marks-keep xs e f g h i = rw (f, h, g, i, e, first-or)
+
+-- ---- the times of the sides
+
+pub time-read : (xs : List ℕ) (side : Side) {at time : ℕ} → at ≡ sideTimeAt side → time ≡ be (part xs at 8) → time ≡ sideTimeOf side xs
+time-read xs side e f = rw e at f
+
+module _ (xs : List ℕ) (side : Side) {time sides : ℕ} {seen : Bool} (et : time ≡ sideTimeOf side xs) (es : sides ≡ be (part xs 54 1))
+    (e : seen ≡ hasSeen side sides) where
+  was : hasSeen side (be (part xs 54 1)) ≡ seen
+  was = rw (e, es)
+
+  pub time-seen : {low : Bool} → seen ≡ true → low ≡ timeInRange time → low || eqb time unknownTime ≡ sideTimeKeeps side xs
+  unfolding sideTimeKeeps
+  time-seen f g = rw (was ∙ f, g, et)
+
+  pub time-unseen : seen ≡ false → eqb time 0 ≡ sideTimeKeeps side xs
+  unfolding sideTimeKeeps
+  time-unseen f = rw (was ∙ f, et)
+
+module _ (xs : List ℕ) (version : ℕ) where
+  pub times-newest : {bid ask : Bool} → version ≡ newest → bid ≡ sideTimeKeeps Bid xs → ask ≡ sideTimeKeeps Ask xs → bid && ask ≡ timesKeep version xs
+  unfolding timesKeep
+  times-newest e f g = rw (eq-eqb version newest e, f, g)
+
+  pub times-older : {zero : Bool} → (version ≡ newest → ⊥) → zero ≡ every isZero (part xs 106 16) → zero ≡ timesKeep version xs
+  unfolding timesKeep
+  times-older e f = rw (ne-eqb version newest e) f
+
+-- ---- the moves
+
+pub mark-seen : (side : Side) (sides : ℕ) {seen : Bool} → seen ≡ hasSeen side sides → seen ≡ true → unknownTime ≡ markOf side sides
+mark-seen side sides e f = rw (← e, f)
+
+pub mark-unseen : (side : Side) (sides : ℕ) {seen : Bool} → seen ≡ hasSeen side sides → seen ≡ false → 0 ≡ markOf side sides
+mark-unseen side sides e f = rw (← e, f)
+
+pub forward-put : (xs : List ℕ) {sides bid ask : ℕ} {us zs : List ℕ} → rowSize ≤ length xs → sides ≡ be (part xs 54 1)
+    → bid ≡ markOf Bid sides → us ≡ overlay xs 106 (bytesBe 8 bid) → ask ≡ markOf Ask sides → zs ≡ overlay us 114 (bytesBe 8 ask)
+    → zs ≡ forwardRow xs
+unfolding forwardRow marksOf digits
+forward-put xs {sides} {bid} {ask} {us} {zs} h s b e a f =
+    run-joined xs 106 (piece 8 (bytesBe 8 bid)) (piece 8 (bytesBe 8 ask) ∷ []) (refl, (refl, tt)) (omega arith) e (zs, f, refl)
+    ∙ rw (b, a, s)
+
+pub back-put : (xs : List ℕ) {zs : List ℕ} → zs ≡ overlay xs 106 (replicate 16 0) → zs ≡ backRow xs
+unfolding backRow
+back-put xs e = e

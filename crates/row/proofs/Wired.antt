@@ -12,7 +12,7 @@ use lib.ListN.{length, getD, replicate}
 use Rattle.field.specs.Bytes.{part, overlay, digits, be, bytesBe, turned}
 use Rattle.field.specs.Limits.{tenThousandths}
 use Rattle.field.proofs.Parts.{part-length, overlay-length, overlay-swap, part-after, part-before}
-use Rattle.field.proofs.Numbers.{Lent, lent-bytes, turned-twice}
+use Rattle.field.proofs.Numbers.{Lent, lent-bytes, rewrites, turned-twice}
 use Rattle.field.proofs.Same.{sameFields, part-numbers, fields-same}
 use Rattle.field.proofs.Writes.{carried-run}
 use Rattle.message.specs.Layout.{priceFrom, bytesFor, values}
@@ -26,8 +26,8 @@ use Rattle.message.proofs.Amounts.{amount-from}
 use Rattle.message.proofs.Layouts.{fields-run}
 use Rattle.message.proofs.Tested.{quotes, quote-none}
 use Rattle.message.proofs.Puts.{long-numbers-put}
-use Rattle.row.specs.Fields.{rowSize, sideAt, sidesOf, seenWith}
-use Rattle.row.specs.Changes.{changed, purge, directoryChanges, unchanged, newRow, actionChanges, sidesChanges, quoteChanges}
+use Rattle.row.specs.Fields.{rowSize, sideAt, sideTimeAt, sidesOf, seenWith}
+use Rattle.row.specs.Changes.{changed, purge, directoryChanges, unchanged, newRow, actionChanges, sidesChanges, ownChanges, quoteChanges}
 use Rattle.row.specs.Wire.{stampIn, longIn, shortIn, actionIn, instrumentIn, textsIn, directoryIn, sidesIn, quoteIn}
 use Rattle.row.specs.declared.Sides.{Sides}
 use Rattle.row.specs.declared.Sides.the-variants.{One, Both}
@@ -42,6 +42,16 @@ unfolding values
 stamp-carried xs bs {us} {zs} k h g e f =
     carried-run bs 1 xs 96 2 (8 ∷ []) h (omega arith) e (zs, f, refl)
     ∙ ap (overlay xs 96) (sym (fields-run stampRows bs 1 (refl, refl, (refl, refl, tt)) (lent-bytes bs k) h))
+
+-- the time by itself, at the place of a side's
+pub time-carried : (xs bs : List ℕ) (side : Side) {at : ℕ} {zs : List ℕ} → Lent bs → 11 ≤ length bs → at ≡ sideTimeAt side
+    → zs ≡ overlay xs at (part bs 3 8) → zs ≡ overlay xs (sideTimeAt side) (bytesBe 8 (stampIn bs .time))
+unfolding values
+time-carried xs bs side k h e f = f ∙ ap (λ (i : ℕ). overlay xs i (part bs 3 8)) e ∙ ap (overlay xs (sideTimeAt side)) (sym (rewrites 8 bs 3 (lent-bytes bs k) h))
+
+pub times-carried : (xs bs : List ℕ) {us zs : List ℕ} → us ≡ overlay xs 106 (bytesBe 8 (stampIn bs .time)) → zs ≡ overlay us 114 (bytesBe 8 (stampIn bs .time))
+    → zs ≡ overlay (overlay xs 106 (bytesBe 8 (stampIn bs .time))) 114 (bytesBe 8 (stampIn bs .time))
+times-carried xs bs e f = f ∙ ap (λ (u : List ℕ). overlay u 114 (bytesBe 8 (stampIn bs .time))) e
 
 -- the bytes that a directory and a row share are those of the message
 shared : (bs : List ℕ) → Lent bs → 63 ≤ length bs → bytesFor instrumentRows (instrumentFields (instrumentIn bs) (textsIn bs)) ≡ part bs 11 52
@@ -178,9 +188,9 @@ module _ (xs bs : List ℕ) {v : ℕ} {us vs : List ℕ} (h : rowSize ≤ length
       ap be (ap (λ (u : List ℕ). part u 54 1) f ∙ part-before us 96 (bytesFor stampRows (stampFields (stampIn bs))) (rw l (omega arith)) 54 1 (omega arith)
       ∙ ap (λ (u : List ℕ). part u 54 1) e ∙ part-after xs 53 (bytesBe 1 v) (omega arith) 54 1 (omega arith))
 
-  pub quote-wire : (sides : Sides) {zs : List ℕ} → sidesIn (getD bs 0 0) bs ≡ sides → zs ≡ changed (sidesChanges sides (sidesOf vs)) vs → zs ≡ changed (quoteChanges (quoteIn bs) xs) xs
+  pub quote-wire : (sides : Sides) {zs : List ℕ} → sidesIn (getD bs 0 0) bs ≡ sides → zs ≡ changed (ownChanges sides (sidesOf vs) (stampIn bs .time)) vs → zs ≡ changed (quoteChanges (quoteIn bs) xs) xs
   quote-wire sides s g =
-      quote-put xs (quoteIn bs) (sym refl) (rw i at e) f (g ∙ ap (λ (n : ℕ). changed (sidesChanges sides n) vs) seen-kept ∙ ap (λ (x : Sides). changed (sidesChanges x (sidesOf xs)) vs) (sym s))
+      quote-put xs (quoteIn bs) (sym refl) (rw i at e) f (g ∙ ap (λ (n : ℕ). changed (ownChanges sides n (stampIn bs .time)) vs) seen-kept ∙ ap (λ (x : Sides). changed (ownChanges x (sidesOf xs) (stampIn bs .time)) vs) (sym s))
 
 module _ (bs : List ℕ) where
   pub arm-b : getD bs 0 0 ≡ 98 → sidesIn (getD bs 0 0) bs ≡ One Bid (shortIn 16 bs)

@@ -2,7 +2,7 @@
 -- Assumes nothing.
 use Prim.Native.Nat.{ℕ, _+_}
 use mathlib.Core.Bool.{Bool, true, _&&_, _||_, cond}
-use mathlib.Core.List.{List, [], _∷_}
+use mathlib.Core.List.{List, [], _∷_, _++_}
 use lib.Dec.{eqb, leb}
 use lib.ListN.{replicate}
 use Rattle.field.specs.Bytes.{overlay, bytesBe, same}
@@ -22,7 +22,7 @@ use Rattle.message.specs.declared.Instrument.{Instrument}
 use Rattle.message.specs.declared.Directory.{Directory}
 use Rattle.message.specs.declared.TradingAction.{TradingAction}
 use Rattle.message.specs.declared.Texts.{Texts}
-use Rattle.row.specs.Fields.{rowSize, instrumentIn, textsIn, sideAt, sidesOf, seenWith}
+use Rattle.row.specs.Fields.{rowSize, instrumentIn, textsIn, sideAt, sideTimeAt, sidesOf, seenWith}
 use Rattle.row.specs.declared.Sides.{Sides}
 use Rattle.row.specs.declared.Sides.the-variants.{One, Both}
 use Rattle.row.specs.declared.Quote.{Quote}
@@ -80,9 +80,13 @@ numbersChange at n = change at 20 (bytesFor (longNumbersRows at) (longNumbersFie
 abbrev pub stampChange : Stamp → Change
 stampChange s = change 96 10 (bytesFor stampRows (stampFields s))
 
--- the quotes are purged: condition space, bytes 54-95 zero
+-- the time of the latest message that set the side (W-209)
+abbrev pub sideTimeChange : Side → ℕ → Change
+sideTimeChange side time = change (sideTimeAt side) 8 (bytesBe 8 time)
+
+-- the quotes are purged: condition space, bytes 54-95 zero, and the times of both sides zero again (W-209)
 abbrev pub purge : List Change
-purge = change 53 1 (bytesBe 1 32) ∷ change 54 42 (replicate 42 0) ∷ []
+purge = change 53 1 (bytesBe 1 32) ∷ change 54 42 (replicate 42 0) ∷ change 106 16 (replicate 16 0) ∷ []
 
 -- ---- a directory
 
@@ -136,8 +140,16 @@ sidesChanges (One side n) seen = seenChange (seenWith side seen) ∷ numbersChan
 sidesChanges (Both bid ask) seen =
     seenChange (seenWith Ask (seenWith Bid seen)) ∷ numbersChange (sideAt Bid) bid ∷ numbersChange (sideAt Ask) ask ∷ []
 
+-- and their times (W-209)
+unfoldable pub timesChanges : Sides → ℕ → List Change
+timesChanges (One side n) time = sideTimeChange side time ∷ []
+timesChanges (Both bid ask) time = sideTimeChange Bid time ∷ sideTimeChange Ask time ∷ []
+
+abbrev pub ownChanges : Sides → ℕ → ℕ → List Change
+ownChanges sides seen time = sidesChanges sides seen ++ timesChanges sides time
+
 unfoldable pub quoteChanges : Quote → List ℕ → List Change
-quoteChanges q r = conditionChange (q .condition) ∷ stampChange (q .stamp) ∷ sidesChanges (q .sides) (sidesOf r)
+quoteChanges q r = conditionChange (q .condition) ∷ stampChange (q .stamp) ∷ ownChanges (q .sides) (sidesOf r) (q .stamp .time)
 
 -- the numbers that it sets a side to, or none
 pub data Quoted : Type 0 where
@@ -156,16 +168,20 @@ quotedBy (Both bid ask) Ask = quoted ask
 
 -- a directory for a known id: its own bytes, and those of the quotes with tradable N
 abbrev pub directoryPlaces : Directory → List Place
-directoryPlaces d = place 0 entrySize ∷ place 96 10 ∷ cond (eqb (d .instrument .tradable) 78) (place 53 1 ∷ place 54 42 ∷ []) []
+directoryPlaces d = place 0 entrySize ∷ place 96 10 ∷ cond (eqb (d .instrument .tradable) 78) (place 53 1 ∷ place 54 42 ∷ place 106 16 ∷ []) []
 
 -- a state
 abbrev pub actionPlaces : List Place
 actionPlaces = place 52 1 ∷ place 96 10 ∷ []
 
--- a quote: the condition, the sides seen, and its own side or sides
+-- a quote: the condition, the sides seen, and its own side or sides and their times
 abbrev pub sidesPlaces : Sides → List Place
 sidesPlaces (One side n) = place (sideAt side) 20 ∷ []
 sidesPlaces (Both bid ask) = place 56 20 ∷ place 76 20 ∷ []
 
+abbrev pub timesPlaces : Sides → List Place
+timesPlaces (One side n) = place (sideTimeAt side) 8 ∷ []
+timesPlaces (Both bid ask) = place 106 8 ∷ place 114 8 ∷ []
+
 abbrev pub quotePlaces : Sides → List Place
-quotePlaces sides = place 53 1 ∷ place 96 10 ∷ place 54 1 ∷ sidesPlaces sides
+quotePlaces sides = place 53 1 ∷ place 96 10 ∷ place 54 1 ∷ sidesPlaces sides ++ timesPlaces sides

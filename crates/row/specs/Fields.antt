@@ -70,6 +70,18 @@ priceOf side r = priceFrom (amountOf side r)
 abbrev pub timeOf : List ℕ → ℕ
 timeOf r = be (part r 98 8)
 
+-- 106-113, 114-121: the time of the latest message that set bid and ask, zero when unseen (W-209)
+abbrev pub sideTimeAt : Side → ℕ
+sideTimeAt Bid = 106
+sideTimeAt Ask = 114
+
+abbrev pub sideTimeOf : Side → List ℕ → ℕ
+sideTimeOf side r = be (part r (sideTimeAt side) 8)
+
+-- a time that is unknown: all bits set
+abbrev pub unknownTime : ℕ
+unknownTime = 18_446_744_073_709_551_615
+
 -- ---- the sides seen
 
 -- is the side among those that the sum names?

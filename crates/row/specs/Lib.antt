@@ -2,3 +2,4 @@ pub mod Fields
 pub mod Changes
 pub mod Rules
 pub mod Wire
+pub mod Moves

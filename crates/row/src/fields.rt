@@ -5,7 +5,7 @@ use message::prices;
 ghost use mathlib.Core.Path.{_≡_};
 ghost use Prim.Native.Nat.{_≤_};
 ghost use lib.ListN.{length};
-ghost use Rattle.row.specs.Fields.{rowSize, idOf, stateOf, sideAt, sidesOf, priceOf, hasSeen};
+ghost use Rattle.row.specs.Fields.{rowSize, idOf, stateOf, sideAt, sidesOf, priceOf, hasSeen, sideTimeAt, sideTimeOf};
 
 pub fn id(row: &[u8]) -> u32
     requires { ⌜ rowSize ≤ length (now row) ⌝ }
@@ -44,6 +44,23 @@ pub fn price(row: &[u8], side: Side) -> Price
 {
     let at = side_at(side);
     prices::long(field::read4(row, at + 4))
+}
+
+// Where the time of the latest message that set a side stands.
+pub fn side_time_at(side: Side) -> usize
+    ensures { λ r. ⌜ (r ≡ sideTimeAt side) × (r ≤ 114) ⌝ }
+{
+    match side {
+        Side::Bid => 106,
+        Side::Ask => 114,
+    }
+}
+
+pub fn side_time(row: &[u8], side: Side) -> u64
+    requires { ⌜ rowSize ≤ length (now row) ⌝ }
+    ensures { λ r. ⌜ r ≡ sideTimeOf side (now (row .entry)) ⌝ }
+{
+    field::read8(row, side_time_at(side))
 }
 
 // Is the side among those that the sum names?

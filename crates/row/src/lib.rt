@@ -10,6 +10,7 @@ ghost use Rattle.row.specs.Fields.{rowSize, seenWith, stateTakesQuote, t
 ghost use Rattle.row.specs.Changes.{changed, purge};
 
 pub mod fields;
+pub mod moves;
 pub mod rules;
 pub mod wire;
 
@@ -68,11 +69,12 @@ fn seen_with(side: Side, sides: u8) -> u8
     }
 }
 
-// No quotes: the condition a space, the sides zero.
+// No quotes: the condition a space, the sides and their times zero.
 fn purge(row: &mut [u8])
     requires { ⌜ rowSize ≤ length (now row) ⌝ }
     ensures { λ r. ⌜ now (row .exit) ≡ changed purge (now (row .entry)) ⌝ }
 {
     field::write1(row, 53, b' ');
     field::fill(row, 54, 42, 0);
+    field::fill(row, 106, 16, 0);
 }

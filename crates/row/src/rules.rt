@@ -1,5 +1,6 @@
-// Document 01's row rules, tested on one row.
+// Document 01's row rules, tested on one row by the version of the image that it stands in.
 use crate::fields;
+use crate::moves;
 use field::limits;
 use field::text;
 use message::Side;
@@ -9,7 +10,10 @@ ghost use mathlib.Core.Path.{_≡_};
 ghost use Prim.Native.Nat.{_≤_};
 ghost use lib.ListN.{length};
 ghost use Rattle.row.specs.Fields.{rowSize};
-ghost use Rattle.row.specs.Rules.{entryKeeps, marksKeep, sideKeeps, bareKeeps, stampKeeps, spareKeeps, rowKeeps};
+ghost use Rattle.row.specs.Rules.{entryKeeps, marksKeep, sideKeeps, bareKeeps, stampKeeps, spareKeeps, commonKeeps, newest, sideTimeKeeps, timesKeep, rowKeeps};
+
+// The version that saving writes, and whose rows a table holds.
+pub const NEWEST: u16 = 3;
 
 fn entry_keeps(row: &[u8]) -> bool
     requires { ⌜ rowSize ≤ length (now row) ⌝ }
@@ -54,16 +58,44 @@ fn spare_keeps(row: &[u8]) -> bool
     requires { ⌜ rowSize ≤ length (now row) ⌝ }
     ensures { λ r. ⌜ r ≡ spareKeeps (now (row .entry)) ⌝ }
 {
-    text::only(row, 55, 1, 0) & text::only(row, 106, 18, 0)
+    text::only(row, 55, 1, 0) & text::only(row, 122, 2, 0)
 }
 
-pub fn keep(row: &[u8]) -> bool
+fn common_keeps(row: &[u8]) -> bool
     requires { ⌜ rowSize ≤ length (now row) ⌝ }
-    ensures { λ r. ⌜ r ≡ rowKeeps (now (row .entry)) ⌝ }
+    ensures { λ r. ⌜ r ≡ commonKeeps (now (row .entry)) ⌝ }
 {
     entry_keeps(row)
         & (marks_keep(row)
             & (side_keeps(Side::Bid, row)
                 & (side_keeps(Side::Ask, row)
                     & (bare_keeps(row) & (stamp_keeps(row) & spare_keeps(row))))))
+}
+
+fn side_time_keeps(side: Side, row: &[u8]) -> bool
+    requires { ⌜ rowSize ≤ length (now row) ⌝ }
+    ensures { λ r. ⌜ r ≡ sideTimeKeeps side (now (row .entry)) ⌝ }
+{
+    let time = fields::side_time(row, side);
+    if fields::has_seen(side, fields::sides(row)) {
+        return limits::time_in_range(time) | (time == moves::UNKNOWN_TIME);
+    }
+    time == 0
+}
+
+fn times_keep(version: u16, row: &[u8]) -> bool
+    requires { ⌜ rowSize ≤ length (now row) ⌝ }
+    ensures { λ r. ⌜ r ≡ timesKeep version (now (row .entry)) ⌝ }
+{
+    if version == NEWEST {
+        return side_time_keeps(Side::Bid, row) & side_time_keeps(Side::Ask, row);
+    }
+    text::only(row, 106, 16, 0)
+}
+
+pub fn keep(version: u16, row: &[u8]) -> bool
+    requires { ⌜ rowSize ≤ length (now row) ⌝ }
+    ensures { λ r. ⌜ r ≡ rowKeeps version (now (row .entry)) ⌝ }
+{
+    common_keeps(row) & times_keep(version, row)
 }

@@ -6,12 +6,12 @@ use message::numbers;
 ghost use mathlib.Core.Path.{_≡_};
 ghost use Prim.Native.Nat.{_+_, _≤_};
 ghost use lib.ListN.{length, getD};
-ghost use Rattle.field.specs.Bytes.{part, overlay};
+ghost use Rattle.field.specs.Bytes.{part, overlay, bytesBe};
 ghost use Rattle.message.specs.Layout.{bytesFor};
 ghost use Rattle.message.specs.Letters.{stampRows, stampFields, longNumbersRows, longNumbersFields, instrumentRows, instrumentFields};
 ghost use Rattle.message.specs.Test.{quoteLength};
-ghost use Rattle.row.specs.Fields.{rowSize, sidesOf};
-ghost use Rattle.row.specs.Changes.{changed, directoryChanges, unchanged, newRow, actionChanges, sidesChanges, quoteChanges};
+ghost use Rattle.row.specs.Fields.{rowSize, sidesOf, sideTimeAt};
+ghost use Rattle.row.specs.Changes.{changed, directoryChanges, unchanged, newRow, actionChanges, ownChanges, quoteChanges};
 ghost use Rattle.row.specs.declared.Sides.the-variants.{One, Both};
 ghost use Rattle.row.specs.Wire.{stampIn, longIn, shortIn, actionIn, instrumentIn, textsIn, directoryIn, quoteIn};
 
@@ -21,6 +21,22 @@ fn put_stamp(row: &mut [u8], bytes: &[u8])
 {
     field::copy2(bytes, 1, row, 96);
     field::copy8(bytes, 3, row, 98);
+}
+
+// The time of the message that sets a side.
+fn put_time(row: &mut [u8], side: Side, bytes: &[u8])
+    requires { ⌜ (rowSize ≤ length (now row)) × (11 ≤ length (now bytes)) ⌝ }
+    ensures { λ r. ⌜ now (row .exit) ≡ overlay (now (row .entry)) (sideTimeAt side) (bytesBe 8 (stampIn (now (bytes .entry)) .time)) ⌝ }
+{
+    field::copy8(bytes, 3, row, fields::side_time_at(side));
+}
+
+fn put_times(row: &mut [u8], bytes: &[u8])
+    requires { ⌜ (rowSize ≤ length (now row)) × (11 ≤ length (now bytes)) ⌝ }
+    ensures { λ r. ⌜ now (row .exit) ≡ overlay (overlay (now (row .entry)) 106 (bytesBe 8 (stampIn (now (bytes .entry)) .time))) 114 (bytesBe 8 (stampIn (now (bytes .entry)) .time)) ⌝ }
+{
+    put_time(row, Side::Bid, bytes);
+    put_time(row, Side::Ask, bytes);
 }
 
 fn put_short(row: &mut [u8], at: usize, bytes: &[u8], from: usize)
@@ -40,16 +56,17 @@ fn put_short(row: &mut [u8], at: usize, bytes: &[u8], from: usize)
 
 fn put_short_side(row: &mut [u8], side: Side, bytes: &[u8])
     requires { ⌜ (rowSize ≤ length (now row)) × (26 ≤ length (now bytes)) ⌝ }
-    ensures { λ r. ⌜ now (row .exit) ≡ changed (sidesChanges (One side (shortIn 16 (now (bytes .entry)))) (sidesOf (now (row .entry)))) (now (row .entry)) ⌝ }
+    ensures { λ r. ⌜ now (row .exit) ≡ changed (ownChanges (One side (shortIn 16 (now (bytes .entry)))) (sidesOf (now (row .entry))) (stampIn (now (bytes .entry)) .time)) (now (row .entry)) ⌝ }
 {
     let seen = fields::sides(row);
     field::write1(row, 54, crate::seen_with(side, seen));
     put_short(row, fields::side_at(side), bytes, 16);
+    put_time(row, side, bytes);
 }
 
 fn put_short_both(row: &mut [u8], bytes: &[u8])
     requires { ⌜ (rowSize ≤ length (now row)) × (36 ≤ length (now bytes)) ⌝ }
-    ensures { λ r. ⌜ now (row .exit) ≡ changed (sidesChanges (Both (shortIn 16 (now (bytes .entry))) (shortIn 26 (now (bytes .entry)))) (sidesOf (now (row .entry)))) (now (row .entry)) ⌝ }
+    ensures { λ r. ⌜ now (row .exit) ≡ changed (ownChanges (Both (shortIn 16 (now (bytes .entry))) (shortIn 26 (now (bytes .entry)))) (sidesOf (now (row .entry))) (stampIn (now (bytes .entry)) .time)) (now (row .entry)) ⌝ }
 {
     let seen = fields::sides(row);
     field::write1(
@@ -59,21 +76,23 @@ fn put_short_both(row: &mut [u8], bytes: &[u8])
     );
     put_short(row, 56, bytes, 16);
     put_short(row, 76, bytes, 26);
+    put_times(row, bytes);
 }
 
 // The numbers come first: so the compiler does not join this arm's end to the short one's.
 fn put_long_side(row: &mut [u8], side: Side, bytes: &[u8])
     requires { ⌜ (rowSize ≤ length (now row)) × (36 ≤ length (now bytes)) ⌝ }
-    ensures { λ r. ⌜ now (row .exit) ≡ changed (sidesChanges (One side (longIn 16 (now (bytes .entry)))) (sidesOf (now (row .entry)))) (now (row .entry)) ⌝ }
+    ensures { λ r. ⌜ now (row .exit) ≡ changed (ownChanges (One side (longIn 16 (now (bytes .entry)))) (sidesOf (now (row .entry))) (stampIn (now (bytes .entry)) .time)) (now (row .entry)) ⌝ }
 {
     let seen = fields::sides(row);
     numbers::carry_long(bytes, 16, row, fields::side_at(side));
     field::write1(row, 54, crate::seen_with(side, seen));
+    put_time(row, side, bytes);
 }
 
 fn put_long_both(row: &mut [u8], bytes: &[u8])
     requires { ⌜ (rowSize ≤ length (now row)) × (56 ≤ length (now bytes)) ⌝ }
-    ensures { λ r. ⌜ now (row .exit) ≡ changed (sidesChanges (Both (longIn 16 (now (bytes .entry))) (longIn 36 (now (bytes .entry)))) (sidesOf (now (row .entry)))) (now (row .entry)) ⌝ }
+    ensures { λ r. ⌜ now (row .exit) ≡ changed (ownChanges (Both (longIn 16 (now (bytes .entry))) (longIn 36 (now (bytes .entry)))) (sidesOf (now (row .entry))) (stampIn (now (bytes .entry)) .time)) (now (row .entry)) ⌝ }
 {
     let seen = fields::sides(row);
     numbers::carry_long(bytes, 16, row, 56);
@@ -83,6 +102,7 @@ fn put_long_both(row: &mut [u8], bytes: &[u8])
         54,
         crate::seen_with(Side::Ask, crate::seen_with(Side::Bid, seen)),
     );
+    put_times(row, bytes);
 }
 
 // A quote of any of the six letters.

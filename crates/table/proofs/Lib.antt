@@ -14,3 +14,4 @@ pub mod Quotes
 pub mod Truth
 pub mod Kept
 pub mod Answers
+pub mod Each

@@ -26,18 +26,18 @@ use Rattle.message.specs.declared.Side.{Side}
 use Rattle.message.specs.declared.Side.the-variants.{Bid, Ask}
 use Rattle.message.specs.declared.Texts.{Texts}
 use Rattle.message.proofs.Ways.{side-rules, quote-rules}
-use Rattle.row.specs.Fields.{rowSize, priceOf, takesQuote}
+use Rattle.row.specs.Fields.{rowSize, priceOf, sideTimeOf, takesQuote}
 use Rattle.row.specs.Changes.{changed, quoteChanges, widenedPrice, quoted, quotedBy}
 use Rattle.row.specs.declared.Sides.{Sides}
 use Rattle.row.specs.declared.Sides.the-variants.{One, Both}
 use Rattle.row.specs.declared.Quote.{Quote}
 use Rattle.row.proofs.Kept.{PricesIn}
 use Rattle.row.proofs.Exactly.{same-size, quote-fitting}
-use Rattle.row.proofs.Quoted.{Stands, unquoted-clash, put-price, quote-numbers}
+use Rattle.row.proofs.Quoted.{Stands, unquoted-clash, put-price, quote-numbers, quote-time}
 use Rattle.table.specs.Memory.{Fitting, Memories, row, withRow, Found, At}
 use Rattle.table.specs.Index.{sought, foundOf}
 use Rattle.table.specs.Board.{Outcome, accepted, refused, quoteAt, ofShortQuote, ofLongQuote, ofShortSide, ofLongSide, lookFor, look, effectAt, applyOf}
-use Rattle.table.specs.Places.{quotedIn}
+use Rattle.table.specs.Places.{quotedIn, timeOf}
 use Rattle.table.specs.declared.index.Sought.the-variants.{Here}
 use Rattle.table.specs.declared.Board.{Board}
 use Rattle.table.specs.declared.Refusal.the-variants.{NoQuotes}
@@ -130,6 +130,12 @@ sets (message.LongQuote m) side n e = record { quote = ofLongQuote m; is = longQ
 sets (message.ShortSide m) side n e = record { quote = ofShortSide m; is = shortSide m; so = e }
 sets (message.LongSide m) side n e = record { quote = ofLongSide m; is = longSide m; so = e }
 sets (message.EndOfReplay m) side n e = unquoted-clash e
+
+quote-stamped : {m : Message} {q : Quote} → IsQuote m q → q .stamp .time ≡ timeOf m
+quote-stamped (shortQuote m) = refl
+quote-stamped (longQuote m) = refl
+quote-stamped (shortSide m) = refl
+quote-stamped (longSide m) = refl
 
 pub quote-kept : {m : Message} {q : Quote} (t : Texts) → IsQuote m q → Typed m t → keeps m t ≡ true → QuoteKept q
 quote-kept t (shortQuote m) f k = short-quote-kept m t f k
@@ -224,3 +230,12 @@ module _ (b : Board) (m : Message) (t : Texts) (l : Memories) (b′ : Board) (me
       let q = sets m side n e in
       let p = side-kept (q .quote .sides) side n (quote-kept t (q .is) f r .prices) (q .so) in
       put-price (row k mem′) side n (p .0) quoted-numbers (p .1)
+
+  -- and the time of that side is the message's
+  pub quoted-time : Typed m t → keeps m t ≡ true → sideTimeOf side (row k mem′) ≡ timeOf m
+  quoted-time f r =
+      let q = sets m side n e in
+      let x = row-left b m (q .quote) t l b′ mem′ k (q .is) a w in
+      ap (sideTimeOf side) (x .after)
+      ∙ quote-time (q .quote) (row k (l .table)) (omega (arith, row-length k (l .table) (x .there))) side n (q .so) (quote-kept t (q .is) f r .time)
+      ∙ quote-stamped (q .is)

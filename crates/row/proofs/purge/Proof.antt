@@ -9,4 +9,4 @@ returns : tie.Need-returns
 returns c = search (purge-put, needs)
 
 pub purge-spec : {M : Type 1} → statement M
-purge-spec = tie.close (tie.spec (λ c κs. search needs) (λ c κs. search needs) (λ c. search needs) returns)
+purge-spec = tie.close (tie.spec (λ c κs. search needs) (λ c κs. search needs) (λ c κs. search needs) (λ c. search needs) returns)

@@ -6,7 +6,7 @@ use Rattle.image.proofs.pages.head_for.Statement.{statement}
 use Rattle.image.proofs.pages.head_for.Tie as tie
 
 returns : tie.Need-returns
-returns c = let s = c .before .args in head-made (s .count) (s .rows) (s .next) (s .k) (c .version-for .ensures)
+returns c = search (head-made, needs)
 
 pub head-for-spec : {M : Type 1} → statement M
-head-for-spec = tie.close (tie.spec (λ c. search needs) (λ c. search needs) (λ c κs. search needs) returns)
+head-for-spec = tie.close (tie.spec (λ c. search needs) (λ c. search needs) returns)

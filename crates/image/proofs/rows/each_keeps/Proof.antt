@@ -14,10 +14,10 @@ use Rattle.image.proofs.rows.each_keeps.Statement.{statement}
 use Rattle.image.proofs.rows.each_keeps.Tie as tie
 
 abbrev Inv-loop : tie.InvT-loop
-Inv-loop s base stride rows k₀ k = (k ≤ rows) × (allBelow (goodRow (pages s base stride (pagesFor rows))) k ≡ true)
+Inv-loop s base stride version rows k₀ k = (k ≤ rows) × (allBelow (goodRow version (pages s base stride (pagesFor rows))) k ≡ true)
 
 abbrev μ-loop : tie.MeasureT-loop
-μ-loop s base stride rows k₀ k = rows - k
+μ-loop s base stride version rows k₀ k = rows - k
 
 loop-holds : tie.Need-loop-holds Inv-loop μ-loop
 loop-holds c = (search needs, below-none _)

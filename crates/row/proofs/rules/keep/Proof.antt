@@ -7,18 +7,7 @@ use Rattle.row.proofs.rules.keep.Tie as tie
 
 returns : tie.Need-returns
 unfolding rowKeeps
-returns c =
-    rw (
-      c .before .before .before .before .before .before .entry-keeps .ensures,
-      c .before .before .before .before .before .marks-keep .ensures,
-      c .before .before .before .before .side-keeps .ensures,
-      c .before .before .before .side-keeps2 .ensures,
-      c .before .before .bare-keeps .ensures,
-      c .before .stamp-keeps .ensures,
-      c .spare-keeps .ensures,
-    )
+returns c = rw (c .before .common-keeps .ensures, c .times-keep .ensures)
 
 pub keep-spec : {M : Type 1} → statement M
-keep-spec =
-    tie.close
-    (tie.spec (λ c κs. search needs) (λ c κs. search needs) (λ c κs. search needs) (λ c κs. search needs) (λ c κs. search needs) (λ c κs. search needs) (λ c κs. search needs) returns)
+keep-spec = tie.close (tie.spec (λ c κs. search needs) (λ c κs. search needs) returns)
