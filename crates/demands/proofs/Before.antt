@@ -1,7 +1,7 @@
 -- NO SAVED TABLE IS LOST (W-208, W-209): by the calls of a reader, what a program of before made or accepted is restored, to the same state and the same table
 -- with the time of each seen side unknown, and saved as its move forward; and what a reader of before answers to what is saved now, and to its move back.
 -- Assumes nothing.
-use mathlib.Core.Path.{_≡_, sym, subst, _∙_, ap}
+use mathlib.Core.Path.{_≡_, subst}
 use mathlib.Core.List.{List, []}
 use Prim.Native.Nat.{ℕ, _≤_, _<_}
 use lib.ListN.{length, replicate, length-replicate}
@@ -24,7 +24,7 @@ use Rattle.image.specs.declared.Saved.the-variants.{Whole}
 use Rattle.image.specs.declared.Verdict.the-variants.{Accepted, Refused}
 use Rattle.image.specs.declared.Way.the-variants.{Forward, Back}
 use Rattle.image.proofs.Rounds.{taken, saved-restored, saved-version}
-use Rattle.image.proofs.Before.{restored-before, made-before, made-taken, not-3, version-3-refused, refused-by-it, back-taken}
+use Rattle.image.proofs.Before.{restored-before, made-before, not-3, version-3-refused, refused-by-it, back-taken}
 use Rattle.reader.specs.View.{sessionOf, stateOf}
 use Rattle.reader.specs.Saving.{headerOf, lineOf, Saves, Restores}
 use Rattle.reader.specs.declared.Reader.{Reader}

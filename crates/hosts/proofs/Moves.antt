@@ -18,9 +18,9 @@ use Rattle.image.specs.declared.Way.{Way}
 use Rattle.image.specs.declared.Way.the-variants.{Forward, Back}
 use Rattle.image.proofs.Moved.{AllUnknown}
 use Rattle.image.proofs.Calls.{forward-back-calls, back-forward-calls, back-forward-only, unmoved-leaves}
-use Rattle.record.specs.Record.{Answered, answered}
+use Rattle.record.specs.Record.{Answered}
 use Rattle.reader.specs.Saving.{writtenOf, writtenBy}
-use Rattle.nelqubat.specs.Host.{savedNumber, savedAs, moveHost, HostMoves}
+use Rattle.nelqubat.specs.Host.{savedNumber, moveHost, HostMoves}
 
 -- ---- what an answer says
 

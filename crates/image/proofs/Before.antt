@@ -2,11 +2,11 @@
 -- each seen side unknown, is saved as its move forward, and that moved back is the image; and what such a program answers to an image of now.
 -- Assumes nothing.
 use mathlib.Core.Path.{_≡_, refl, sym, ap, _∙_}
-use mathlib.Core.Bool.{Bool, true, false, _&&_, _||_, not, cond, and-false}
+use mathlib.Core.Bool.{Bool, true, false, _&&_, not, cond, and-false}
 use mathlib.Core.List.{List, _++_, append-assoc}
-use Prim.Native.Nat.{ℕ, zero, suc, _+_, _-_, _*_, _/_, _%_, _^_, _≤_, _<_}
+use Prim.Native.Nat.{ℕ, zero, _+_, _-_, _*_, _%_, _^_, _≤_, _<_}
 use native.Mathlib.Omega.{arith}
-use lib.Dec.{eqb, leb, lit<}
+use lib.Dec.{eqb, leb}
 use lib.ListN.{length, replicate, length-append, length-replicate, replicate-append-replicate}
 use borrow.Author.Tests.{le-leb, lt-leb, eq-eqb, ne-eqb, eqb-true, leb-true}
 use Rattle.field.specs.Bytes.{Bytes, part, overlay}
@@ -24,23 +24,23 @@ use Rattle.row.specs.Moves.{forwardRow}
 use Rattle.table.specs.Memory.{mostRows, tableSize, rowAt, row, eachRow}
 use Rattle.table.specs.Board.{fits}
 use Rattle.table.specs.Rules.{rowsKeep}
-use Rattle.image.specs.Shape.{pageRows, pagesFor, blocksFor, mostBlocks, rowsOfVersion1, oldVersion, versionFits, welcome, headFor, pages, firstPage, allBelow}
+use Rattle.image.specs.Shape.{pagesFor, blocksFor, mostBlocks, rowsOfVersion1, oldVersion, versionFits, headFor, pages, firstPage, allBelow}
 use Rattle.image.specs.Header.{withinLimits, headerKeeps, headerOf}
 use Rattle.image.specs.Save.{cleared, imageIn, sizeFor, Saving, saving, saveOf}
-use Rattle.image.specs.Restore.{countOf, lengthKeeps, checksKeep, versionOf, headKeeps, headsKeep, factsKeep, slotsKeep, contentsKeep, verdictIn, verdictOf, rowsOf, memoryOf, Restoring, restored, restoring, restoreOf, restoredBy}
-use Rattle.image.specs.Moves.{movedOf, along}
+use Rattle.image.specs.Restore.{countOf, lengthKeeps, checksKeep, versionOf, headKeeps, headsKeep, factsKeep, slotsKeep, contentsKeep, verdictIn, verdictOf, rowsOf, Restoring, restored, restoring, restoreOf, restoredBy}
+use Rattle.image.specs.Moves.{movedOf}
 use Rattle.image.specs.Before.{Program, beforeW208, beforeW209, Former, tableSizeOf, mostBlocksOf, isTableOf, widened, lengthKept, headKept, headsKept, slotsKept, contentsKept, verdictBefore, memoryBefore, restoredByBefore, restoreBefore, withinLimitsOf, imageBefore, saveBefore}
 use Rattle.image.specs.declared.Header.{Header}
 use Rattle.image.specs.declared.Refusal.the-variants.{Unfit, BadLength, BadCheck, BadHead, BadContents, ShortOutput}
 use Rattle.image.specs.declared.Saved.the-variants.{Whole}
 use Rattle.image.specs.declared.Verdict.{Verdict}
 use Rattle.image.specs.declared.Verdict.the-variants.{Accepted, Refused}
-use Rattle.image.specs.declared.Wanted.the-variants.{Any, Older, Newest}
+use Rattle.image.specs.declared.Wanted.the-variants.{Any, Older}
 use Rattle.image.specs.declared.Way.the-variants.{Forward, Back}
 use Rattle.image.proofs.Below.{below-same, below-at, below-stop}
 use Rattle.image.proofs.Walk.{rows-equal}
 use Rattle.image.proofs.Back.{HeaderFits, image-length, header-back, version-back, rows-of-back, image-accepted}
-use Rattle.image.proofs.Again.{accepted-if, Kept, kept, count-is, version-good}
+use Rattle.image.proofs.Again.{accepted-if, kept, count-is, version-good}
 use Rattle.image.proofs.Renewed.{older, old-other, older-is, memory-old}
 use Rattle.image.proofs.Rounds.{whole-if, header-fits, restored-forward}
 use Rattle.image.proofs.Moved.{version-below, old-welcome, any-accepted, moved-accepted, moved-header, forward-then-back}

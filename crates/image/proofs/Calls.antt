@@ -11,8 +11,7 @@ use lib.ListN.{length}
 use borrow.Author.Tests.{le-leb, leb-true}
 use Rattle.field.specs.Bytes.{part, overlay, Bytes}
 use Rattle.field.proofs.Parts.{part-overlay}
-use Rattle.row.specs.Rules.{newest}
-use Rattle.image.specs.Shape.{oldVersion, welcome}
+use Rattle.image.specs.Shape.{welcome}
 use Rattle.image.specs.Header.{headerOf}
 use Rattle.image.specs.Save.{Saving, saving, unsaved}
 use Rattle.image.specs.Restore.{verdictIn}

@@ -3,34 +3,30 @@
 use mathlib.Core.Path.{_≡_, refl, sym, ap, _∙_}
 use mathlib.Core.Bool.{Bool, true, false, _&&_, not, cond}
 use mathlib.Core.List.{List}
-use Prim.Native.Nat.{ℕ, zero, suc, _+_, _-_, _*_, _^_, _≤_, _<_}
+use Prim.Native.Nat.{ℕ, zero, suc, _-_, _*_, _^_, _≤_, _<_}
 use native.Mathlib.Nat.{not-suc-le-zero}
 use native.Mathlib.Decide.{ℕ-discrete}
 use native.Mathlib.Omega.{arith}
 use lib.Dec.{eqb, leb, lit<}
-use lib.ListN.{length, drop, replicate}
-use borrow.Author.Tests.{eq-eqb, ne-eqb, eqb-true}
+use lib.ListN.{length}
+use borrow.Author.Tests.{ne-eqb, eqb-true}
 use Rattle.field.specs.Bytes.{part, Bytes}
-use Rattle.field.specs.Text.{every, isZero}
 use Rattle.field.proofs.Parts.{part-length}
 use Rattle.field.proofs.Numbers.{part-bytes}
 use Rattle.row.specs.Fields.{rowSize}
-use Rattle.row.specs.Rules.{newest, rowKeeps}
+use Rattle.row.specs.Rules.{newest}
 use Rattle.row.specs.Moves.{forwardRow, backRow, TimesUnknown}
-use Rattle.row.specs.Moves.{knownTimes}
 use Rattle.row.proofs.Moved.{back-forward, was-unknown, then-same, none-known, unknown-none}
-use Rattle.table.specs.Memory.{mostRows, tableSize, rowAt, row, eachRow}
-use Rattle.table.specs.Rules.{rowsKeep}
+use Rattle.table.specs.Memory.{tableSize, rowAt, row, eachRow}
 use Rattle.table.proofs.Rows.{row-kept}
 use Rattle.table.proofs.Each.{rows-whole, each-length, each-past, each-row}
-use Rattle.image.specs.Shape.{rowsOfVersion1, oldVersion, versionFits, welcome, placeOf, pagesFor, firstPage}
-use Rattle.image.specs.Header.{freshHeader, headerOf}
-use Rattle.image.specs.Save.{cleared, imageIn}
+use Rattle.image.specs.Shape.{rowsOfVersion1, oldVersion, welcome, placeOf, pagesFor, firstPage}
+use Rattle.image.specs.Header.{headerOf}
+use Rattle.image.specs.Save.{imageIn}
 use Rattle.image.specs.Restore.{countOf, lengthKeeps, checksKeep, headsKeep, contentsKeep, versionOf, verdictIn, verdictOf, rowsOf, memoryOf, restored, restoring, restoredBy, restoreOf}
-use Rattle.image.specs.Moves.{wantedBy, versionAfter, along, movedOf, knownIn, lostBy, lostOf}
+use Rattle.image.specs.Moves.{versionAfter, along, movedOf, knownIn, lostBy, lostOf}
 use Rattle.image.specs.declared.Header.{Header}
 use Rattle.image.specs.declared.Refusal.the-variants.{Unfit, BadLength, BadCheck, BadHead, BadContents}
-use Rattle.image.specs.declared.Verdict.{Verdict}
 use Rattle.image.specs.declared.Verdict.the-variants.{Accepted, Refused}
 use Rattle.image.specs.declared.Wanted.{Wanted}
 use Rattle.image.specs.declared.Wanted.the-variants.{Any, Older, Newest}
@@ -40,7 +36,7 @@ use Rattle.block.specs.Block.{blockSize}
 use Rattle.image.proofs.Laid.{place-row, row-page}
 use Rattle.image.proofs.Zeros.{cleared-own}
 use Rattle.image.proofs.Back.{HeaderFits, image-length, header-back, version-back, rows-of-back, image-accepted}
-use Rattle.image.proofs.Again.{Kept, kept, count-is, pages-are, within, memory-start, rows-inside, header-good, next-good, version-good, rows-few, rows-length, rows-blank, rows-again, limits-again, image-again}
+use Rattle.image.proofs.Again.{Kept, kept, count-is, pages-are, within, memory-start, rows-inside, header-good, next-good, version-good, rows-few, rows-length, rows-again, limits-again, image-again}
 use Rattle.image.proofs.Rounds.{header-fits}
 use Rattle.image.proofs.Renewed.{older, old-other, older-is, after-fits, along-size, own-length, moved-row, moved-length, moved-past, moved-blank, moved-keep, memory-new, memory-old}
 

@@ -3,7 +3,7 @@
 use mathlib.Core.Path.{_≡_, refl, sym, ap, _∙_}
 use mathlib.Core.Bool.{Bool, true, false, not, _||_, cond}
 use mathlib.Core.List.{List}
-use Prim.Native.Nat.{ℕ, _-_, _*_, _≤_, _<_}
+use Prim.Native.Nat.{ℕ, _-_, _≤_, _<_}
 use native.Mathlib.Omega.{arith}
 use lib.Dec.{eqb, leb}
 use lib.ListN.{length, drop, replicate}
@@ -11,21 +11,20 @@ use borrow.Author.Tests.{eq-eqb, le-leb, eqb-true}
 use Rattle.field.specs.Bytes.{part}
 use Rattle.row.specs.Fields.{rowSize, idOf}
 use Rattle.row.specs.Rules.{newest, rowKeeps}
-use Rattle.row.specs.Moves.{forwardRow, backRow}
 use Rattle.row.proofs.Moved.{forward-size, back-size, forward-id, back-id, forward-keeps, back-keeps}
 use Rattle.table.specs.Memory.{mostRows, tableSize, rowAt, row, eachRow}
 use Rattle.table.specs.Board.{fits}
 use Rattle.table.specs.Rules.{rowsKeep}
-use Rattle.table.proofs.Rows.{row-length, rows-same, row-kept}
+use Rattle.table.proofs.Rows.{row-length, rows-same}
 use Rattle.table.proofs.Each.{each-length, each-past, each-row}
 use Rattle.image.specs.Shape.{rowsOfVersion1, oldVersion, versionFits, welcome}
 use Rattle.image.specs.Header.{withinLimits, headerOf}
 use Rattle.image.specs.Restore.{versionOf, rowsOf, renewed, memoryOf}
 use Rattle.image.specs.Moves.{versionAfter, along}
-use Rattle.image.specs.declared.Wanted.the-variants.{Older, Newest}
+use Rattle.image.specs.declared.Wanted.the-variants.{Older}
 use Rattle.image.specs.declared.Way.{Way}
 use Rattle.image.specs.declared.Way.the-variants.{Forward, Back}
-use Rattle.image.proofs.Zeros.{rest-part, cleared-own}
+use Rattle.image.proofs.Zeros.{rest-part}
 use Rattle.image.proofs.Again.{Kept, next-good, rows-few, rows-length, rows-blank, rows-again}
 
 -- ---- the versions

@@ -1,12 +1,10 @@
 -- The ways through the moves of rows.
 -- Assumes nothing.
-use mathlib.Core.Path.{_≡_, refl, sym, ap, _∙_}
-use mathlib.Core.Bool.{true, false}
+use mathlib.Core.Path.{_≡_, ap, _∙_}
 use mathlib.Core.List.{List}
-use Prim.Native.Nat.{ℕ, _+_, _-_, _*_, _≤_, _<_}
+use Prim.Native.Nat.{ℕ, _+_, _-_, _*_, _≤_}
 use native.Mathlib.Omega.{arith}
-use lib.Dec.{eqb}
-use lib.ListN.{length, take, drop}
+use lib.ListN.{length}
 use borrow.Author.Tests.{eq-eqb, ne-eqb}
 use borrow.Rule.Slice.PartMut.{putMid}
 use Rattle.field.specs.Bytes.{part, overlay}
@@ -15,7 +13,6 @@ use Rattle.row.specs.Fields.{rowSize}
 use Rattle.row.specs.Rules.{newest}
 use Rattle.row.specs.Moves.{forwardRow, backRow}
 use Rattle.table.specs.Memory.{row, withRow, eachRow}
-use Rattle.table.proofs.Each.{each-turn}
 use Rattle.image.specs.Restore.{renewed}
 use Rattle.image.specs.Moves.{versionAfter, along}
 use Rattle.image.specs.Shape.{oldVersion}

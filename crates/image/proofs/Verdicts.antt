@@ -1,7 +1,7 @@
 -- Refusals: the lowest number wins, nothing is written, and answers are equal.
 -- Assumes nothing.
 use mathlib.Core.Path.{_≡_, sym, ap}
-use mathlib.Core.Bool.{Bool, true, false, _&&_, cond}
+use mathlib.Core.Bool.{Bool, true, false, _&&_, cond, and-false}
 use mathlib.Core.List.{List}
 use Prim.Native.Nat.{ℕ, _*_, _<_}
 use native.Mathlib.Omega.{arith}
@@ -14,7 +14,7 @@ use Rattle.block.specs.Block.{blockSize, checkKeeps}
 use Rattle.row.specs.Rules.{newest}
 use Rattle.table.specs.Memory.{isTable}
 use Rattle.table.specs.Rules.{rowsKeep}
-use Rattle.image.specs.Shape.{versionFits}
+use Rattle.image.specs.Shape.{versionFits, welcome}
 use Rattle.image.specs.Header.{freshHeader, withinLimits, headerKeeps, headerOf}
 use Rattle.image.specs.Save.{imageOf, sizeFor, Saving, saving, unsaved, saveOf}
 use Rattle.image.specs.Restore.{countOf, lengthKeeps, checksKeep, headKeeps, headsKeep, versionOf, verdictIn, verdictOf, Restoring, restored, restoring, restoredBy, restoreOf}
@@ -26,6 +26,7 @@ use Rattle.image.specs.declared.Saved.the-variants.{Whole, Unsaved}
 use Rattle.image.specs.declared.Verdict.{Verdict}
 use Rattle.image.specs.declared.Verdict.the-variants.{Accepted, Refused}
 use Rattle.image.specs.declared.Restored.{Restored}
+use Rattle.image.specs.declared.Wanted.{Wanted}
 use Rattle.image.proofs.Below.{below-stop}
 
 -- ---- when several blocks are bad, the lowest number is given
@@ -47,6 +48,16 @@ pub bad-next : (image : List ℕ) → lengthKeeps image ≡ true → checksKeep 
     → verdictOf image ≡ Refused BadHead
 unfolding verdictIn headsKeep
 bad-next image size c n = rw (size, c, n)
+
+-- and so is a version that does not fit the rows, or that the call does not take, whatever the contents are
+module _ (wanted : Wanted) (image : List ℕ) (size : lengthKeeps image ≡ true) (checks : checksKeep image (countOf image) ≡ true) where
+  pub bad-version : versionFits (versionOf image) (headerOf image .board .rows) ≡ false → verdictIn wanted image ≡ Refused BadHead
+  unfolding verdictIn headsKeep
+  bad-version v = rw (size, checks, v, and-false (numberInRange (headerOf image .next)))
+
+  pub unwelcome : welcome wanted (versionOf image) ≡ false → verdictIn wanted image ≡ Refused BadHead
+  unfolding verdictIn
+  unwelcome w = rw (size, checks, w, and-false (headsKeep image (countOf image) (headerOf image)))
 
 -- ---- what a refusal leaves
 

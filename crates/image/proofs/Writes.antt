@@ -3,7 +3,7 @@
 use mathlib.Core.Path.{_≡_, refl, sym, ap, _∙_}
 use mathlib.Core.Bool.{Bool, true, false, cond}
 use mathlib.Core.List.{List}
-use Prim.Native.Nat.{ℕ, zero, suc, _+_, _-_, _*_, _≤_, _<_}
+use Prim.Native.Nat.{ℕ, _+_, _-_, _*_, _≤_, _<_}
 use native.Mathlib.Decide.{ℕ-discrete}
 use native.Mathlib.Numerals.{add-one}
 use native.Mathlib.Omega.{arith}
@@ -19,7 +19,7 @@ use Rattle.row.specs.Fields.{rowSize}
 use Rattle.row.specs.Moves.{knownTimes}
 use Rattle.table.specs.Memory.{mostRows, tableSize, rowAt, row, eachRow}
 use Rattle.table.proofs.Each.{rows-whole, each-length, each-past, each-row}
-use Rattle.image.specs.Shape.{pageRows, pagesFor, blocksFor, mostBlocks, headFor, pages, placeOf, firstPage}
+use Rattle.image.specs.Shape.{pageRows, pagesFor, blocksFor, mostBlocks, headFor, placeOf, firstPage}
 use Rattle.image.specs.Header.{headerOf}
 use Rattle.image.specs.Save.{pageOf, bodyOf, savedBlock, blocks, imageIn, saving, unsaved}
 use Rattle.image.specs.Restore.{countOf, verdictIn, verdictOf, rowsOf}

@@ -2,17 +2,14 @@
 -- Assumes nothing.
 use mathlib.Core.Path.{_≡_, refl, _∙_}
 use mathlib.Core.Bool.{true}
-use mathlib.Core.List.{List, [], _∷_, _++_, append-assoc}
+use mathlib.Core.List.{List, _++_, append-assoc}
 use Prim.Native.Nat.{ℕ, zero, _+_, _-_, _≤_}
 use native.Mathlib.Nat.{zero-add}
 use native.Mathlib.Omega.{arith}
-use lib.Dec.{leb}
 use lib.ListN.{length, drop, replicate, length-drop, replicate-append-replicate, take-append-drop}
 use lib.Seq.{take-length}
-use borrow.Author.Tests.{leb-true}
 use Rattle.field.specs.Bytes.{part}
 use Rattle.field.specs.Text.{every, isZero}
-use Rattle.field.proofs.Bools.{both-left, both-right}
 use Rattle.field.proofs.Parts.{part-part, part-whole, part-replicate}
 use Rattle.field.proofs.Runs.{every-replicate}
 use Rattle.block.proofs.Joins.{part-first, part-second, part-both}

@@ -6,6 +6,7 @@ ghost use Rattle.image.specs.Save.{refusalNumber, saving, saveOf};
 ghost use Rattle.image.specs.declared.Verdict.the-variants.{Refused};
 ghost use Rattle.image.specs.Restore.{restoring, restored, restoreOf};
 
+mod each_row;
 mod facts;
 mod ids;
 mod judge;
@@ -144,7 +145,7 @@ pub fn restore(image: &[u8], table: &mut [u8]) -> Restored
         Verdict::Accepted => {
             pages::take(image, table, image.len() / block::BLOCK_SIZE - 1);
             let header = facts::read(image);
-            moves::renew(table, facts::version(image), header.board.rows);
+            each_row::renew(table, facts::version(image), header.board.rows);
             Restored {
                 verdict: Verdict::Accepted,
                 header,

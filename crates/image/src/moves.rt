@@ -1,10 +1,11 @@
-// Images and tables moved to version 3 and back (W-209).
+// Images moved to version 3 and back (W-209).
 use crate::Header;
 use crate::Refusal;
 use crate::Saved;
 use crate::Verdict;
 use crate::Wanted;
 use crate::Way;
+use crate::each_row;
 use crate::facts;
 use crate::judge;
 use crate::pages;
@@ -14,59 +15,15 @@ ghost use mathlib.Core.Path.{_≡_};
 ghost use Rattle.image.specs.declared.Verdict.the-variants.{Accepted};
 ghost use Prim.Native.Nat.{_+_, _*_, _≤_, _<_};
 ghost use lib.ListN.{length};
-ghost use Rattle.row.specs.Fields.{rowSize};
-ghost use Rattle.table.specs.Memory.{rowAt, row, withRow, eachRow};
+ghost use Rattle.table.specs.Memory.{row, eachRow};
 ghost use Rattle.field.specs.Bytes.{overlay};
 ghost use Rattle.block.specs.Block.{blockSize, bodySize};
 ghost use Rattle.image.specs.Shape.{pageRows, pagesFor, blocksFor};
 ghost use Rattle.image.specs.Header.{headerOf};
 ghost use Rattle.image.specs.Save.{pageOf, bodyOf, savedBlock, imageIn, saving};
-ghost use Rattle.image.specs.Restore.{countOf, rowsOf, verdictOf, renewed};
-ghost use Rattle.image.specs.Moves.{usedIn, wantedBy, versionAfter, along, movedOf, moveOf, knownIn, lostOf};
+ghost use Rattle.image.specs.Restore.{rowsOf, verdictOf};
+ghost use Rattle.image.specs.Moves.{usedIn, wantedBy, versionAfter, along, moveOf, knownIn, lostOf};
 ghost use Rattle.image.specs.declared.Way.the-variants.{Forward, Back};
-
-// One row.
-fn go(row: &mut [u8], way: Way)
-    requires { ⌜ rowSize ≤ length (now row) ⌝ }
-    ensures { λ r. ⌜ now (row .exit) ≡ along way (now (row .entry)) ⌝ }
-{
-    match way {
-        Way::Forward => row::moves::forward(row),
-        Way::Back => row::moves::back(row),
-    }
-}
-
-// Row k of table memory, or of a page.
-fn go_at(table: &mut [u8], way: Way, k: usize)
-    requires { ⌜ k * rowSize + rowSize ≤ length (now table) ⌝ }
-    ensures { λ r. ⌜ now (table .exit) ≡ withRow k (along way (row k (now (table .entry)))) (now (table .entry)) ⌝ }
-{
-    let from = k * row::ROW_SIZE;
-    let to = from + row::ROW_SIZE;
-    go(&mut table[from..to], way);
-}
-
-// Each of the first rows of table memory, or of a page.
-pub fn each(table: &mut [u8], way: Way, rows: usize)
-    requires { ⌜ rowAt rows ≤ length (now table) ⌝ }
-    ensures { λ r. ⌜ now (table .exit) ≡ eachRow (along way) rows (now (table .entry)) ⌝ }
-{
-    let mut k = 0;
-    while k < rows {
-        go_at(table, way, k);
-        k += 1;
-    }
-}
-
-// Rows of a version as a table holds them.
-pub fn renew(table: &mut [u8], version: u16, rows: usize)
-    requires { ⌜ rowAt rows ≤ length (now table) ⌝ }
-    ensures { λ r. ⌜ now (table .exit) ≡ renewed version rows (now (table .entry)) ⌝ }
-{
-    if version != rules::NEWEST {
-        each(table, Way::Forward, rows);
-    }
-}
 
 // So many rows stand in page k.
 fn used_in(rows: usize, k: usize) -> usize
@@ -94,7 +51,7 @@ fn put_page(image: &[u8], out: &mut [u8], at: usize, way: Way, rows: usize, k: u
     );
     let used = used_in(rows, k);
     let to = at + block::BODY_SIZE;
-    each(&mut out[at..to], way, used);
+    each_row::all(&mut out[at..to], way, used);
 }
 
 fn put_body(image: &[u8], out: &mut [u8], at: usize, h: Header, way: Way, k: usize)

@@ -25,7 +25,7 @@ use Rattle.message.specs.declared.TradingAction.{TradingAction}
 use Rattle.message.specs.declared.Texts.{Texts}
 use Rattle.message.proofs.Layouts.{values-back, values-in-part, rowsIn}
 use Rattle.message.proofs.Typed.{listed-below}
-use Rattle.row.specs.Fields.{rowSize, entryOf, other, stateOf, conditionOf, sidesOf, sideAt, numbersOf, amountOf, timeOf, sideTimeAt, sideTimeOf, unknownTime, hasSeen, seenWith}
+use Rattle.row.specs.Fields.{rowSize, entryOf, other, stateOf, conditionOf, sidesOf, sideAt, numbersOf, amountOf, timeOf, sideTimeAt, unknownTime, hasSeen, seenWith}
 use Rattle.row.specs.Changes.{Change, change, changed, places, outside, entryChange, stateChange, conditionChange, seenChange, numbersChange, stampChange, timesChanges, ownChanges, purge, purgeFor, sidesChanges, directoryChanges, newRow, actionChanges, quotedBy}
 use Rattle.row.specs.Changes as changes
 use Rattle.row.specs.Rules.{entryKeeps, marksKeep, sideKeeps, bareKeeps, stampKeeps, spareKeeps, commonKeeps, newest, sideTimeKeeps, timesKeep, rowKeeps}

@@ -2,13 +2,13 @@
 -- Assumes nothing.
 use mathlib.Core.Path.{_≡_, refl, sym, ap, _∙_}
 use mathlib.Core.Bool.{Bool, true, false, cond, _&&_, _||_, not}
-use mathlib.Core.List.{List, [], _∷_, _++_}
+use mathlib.Core.List.{List, _++_}
 use Prim.Native.Nat.{ℕ, _+_, _^_, _≤_, _<_}
 use native.Mathlib.Omega.{arith}
 use borrow.Author.Tests.{eq-eqb, ne-eqb, eqb-true}
-use lib.Dec.{eqb, leb, lit<}
-use lib.ListN.{length, replicate, length-append, length-replicate}
-use Rattle.field.specs.Bytes.{part, overlay, value, digits, be, bytesBe, Bytes}
+use lib.Dec.{eqb, lit<}
+use lib.ListN.{length, replicate, length-append}
+use Rattle.field.specs.Bytes.{part, overlay, digits, be, bytesBe, Bytes}
 use Rattle.field.specs.Limits.{timeInRange}
 use Rattle.field.specs.Text.{every, isZero}
 use Rattle.field.proofs.Bools.{both-left, both-right}

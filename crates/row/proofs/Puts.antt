@@ -1,17 +1,18 @@
 -- The ways through the code: what it tests and writes is what the definitions say.
 -- Assumes nothing.
 use mathlib.Core.Path.{_≡_, refl, sym, ap, _∙_}
-use mathlib.Core.Bool.{Bool, true, false, cond, _&&_, _||_}
+use mathlib.Core.Bool.{Bool, true, false, cond, _&&_, _||_, not}
 use mathlib.Core.List.{List, [], _∷_, _++_}
 use Prim.Native.Nat.{ℕ, _+_, _/_, _%_, _≤_}
 use native.Mathlib.Omega.{arith}
 use borrow.Author.Tests.{eq-eqb, ne-eqb}
 use lib.Dec.{eqb, leb}
 use lib.ListN.{length, replicate, length-append, length-replicate}
-use Rattle.field.specs.Bytes.{part, overlay, digits, be, bytesBe}
+use Rattle.field.specs.Bytes.{part, overlay, value, digits, be, bytesBe}
 use Rattle.field.specs.Limits.{timeInRange, priceInRange}
 use Rattle.field.specs.Text.{every, isZero}
-use Rattle.field.proofs.Parts.{part-replicate, overlay-own, overlay-whole, overlay-next, overlay-swap}
+use Rattle.field.proofs.Parts.{part-length, part-part, part-replicate, overlay-own, overlay-whole, overlay-next, overlay-swap}
+use Rattle.field.proofs.Runs.{zeros-are}
 use Rattle.field.proofs.Writes.{piece, run-joined}
 use Rattle.message.specs.Layout.{priceFrom, bytesFor, values}
 use Rattle.message.specs.Letters.{listed, states, conditions, stampRows, stampFields, longNumbersRows, longNumbersFields, instrumentRows, instrumentFields}
@@ -24,10 +25,18 @@ use Rattle.message.specs.declared.TradingAction.{TradingAction}
 use Rattle.message.specs.declared.Texts.{Texts}
 use Rattle.row.specs.Fields.{rowSize, idOf, tradableOf, sideAt, sidesOf, priceOf, sideTimeAt, sideTimeOf, unknownTime, hasSeen, weight, seenWith, stateTakesQuote, takesQuote}
 use Rattle.row.specs.Changes.{changed, purge, directoryChanges, newRow, actionChanges, sidesChanges, timesChanges, ownChanges, quoteChanges}
-use Rattle.row.specs.Rules.{marksKeep, sideKeeps, newest, sideTimeKeeps, timesKeep}
+use Rattle.row.specs.Rules.{marksKeep, sideKeeps, commonKeeps, newest, sideTimeKeeps, timesKeep, rowKeeps}
 use Rattle.row.specs.Moves.{markOf, marksOf, forwardRow, backRow}
 use Rattle.row.specs.declared.Sides.the-variants.{One, Both}
 use Rattle.row.specs.declared.Quote.{Quote}
+
+not-true : (b : Bool) → not b ≡ true → b ≡ false
+not-true true n = sym n
+not-true false n = refl
+
+not-false : (b : Bool) → not b ≡ false → b ≡ true
+not-false true n = refl
+not-false false n = sym n
 
 -- ---- the fields of a row
 
@@ -165,11 +174,37 @@ pub price-read : (xs : List ℕ) (side : Side) {at n : ℕ} {price : Price} → 
     → price ≡ priceOf side xs
 price-read xs side e f g = g ∙ ap priceFrom (rw e at f)
 
-pub side-keeps : (xs : List ℕ) (side : Side) {at sides : ℕ} {seen zero low : Bool} → at ≡ sideAt side → sides ≡ be (part xs 54 1)
-    → seen ≡ hasSeen side sides → zero ≡ every isZero (part xs at 20) → low ≡ priceInRange (be (part xs (at + 4) 4))
-    → (seen || zero) && low ≡ sideKeeps side xs
-unfolding sideKeeps
-side-keeps xs side e f g h i = rw (i, h, g, f, e)
+-- a side that is all zero has a price in range
+zeros-low : (xs : List ℕ) (at : ℕ) → at + 20 ≤ length xs → every isZero (part xs at 20) ≡ true → priceInRange (be (part xs (at + 4) 4)) ≡ true
+unfolding part value
+zeros-low xs at h e =
+    let l : length (part xs at 20) ≡ 20 = part-length xs at 20 h in
+    let z : part xs at 20 ≡ replicate 20 0 = zeros-are (part xs at 20) e ∙ ap (λ (n : ℕ). replicate n 0) l in
+    ap (λ (x : List ℕ). priceInRange (be x)) (sym (part-part xs at 20 4 4 (omega arith)) ∙ ap (λ (x : List ℕ). part x 4 4) z)
+
+module _ (xs : List ℕ) (side : Side) {at sides : ℕ} {seen : Bool} (e : at ≡ sideAt side) (f : sides ≡ be (part xs 54 1)) (g : seen ≡ hasSeen side sides) where
+  told : hasSeen side (be (part xs 54 1)) ≡ seen
+  told = rw (g, f)
+
+  pub side-unseen : rowSize ≤ length xs → at ≤ 76 → not seen ≡ true → {zero : Bool} → zero ≡ every isZero (part xs at 20) → zero ≡ sideKeeps side xs
+  unfolding sideKeeps
+  side-unseen l m n {zero} h = rw (told ∙ not-true seen n, ← e) (by (every isZero (part xs at 20)) refl)
+    where
+      by : (b : Bool) → every isZero (part xs at 20) ≡ b → zero ≡ every isZero (part xs at 20) && priceInRange (be (part xs (at + 4) 4))
+      by true i = rw (i, zeros-low xs at (omega arith) i) (h ∙ i)
+      by false i = rw i (h ∙ i)
+
+  pub side-seen : not seen ≡ false → {low : Bool} → low ≡ priceInRange (be (part xs (at + 4) 4)) → low ≡ sideKeeps side xs
+  unfolding sideKeeps
+  side-seen n h = rw (told ∙ not-false seen n, ← e) h
+
+pub keep-not : (version : ℕ) (xs : List ℕ) {common : Bool} → common ≡ commonKeeps xs → not common ≡ true → false ≡ rowKeeps version xs
+unfolding rowKeeps
+keep-not version xs {common} e n = rw (← e, not-true common n)
+
+pub keep-on : (version : ℕ) (xs : List ℕ) {common times : Bool} → common ≡ commonKeeps xs → not common ≡ false → times ≡ timesKeep version xs → times ≡ rowKeeps version xs
+unfolding rowKeeps
+keep-on version xs {common} e n h = rw (← e, not-false common n) h
 
 first-or : (a b : Bool) → a || b ≡ cond a true b
 first-or true b = refl

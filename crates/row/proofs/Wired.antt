@@ -32,7 +32,7 @@ use Rattle.row.specs.Wire.{stampIn, longIn, shortIn, actionIn, instrumen
 use Rattle.row.specs.declared.Sides.{Sides}
 use Rattle.row.specs.declared.Sides.the-variants.{One, Both}
 use Rattle.row.proofs.Quoted.{widened-amount}
-use Rattle.row.proofs.Puts.{action-put, directory-put, directory-kept, new-put, quote-put}
+use Rattle.row.proofs.Puts.{action-put, directory-put, directory-kept, new-put, one-timed, quote-put}
 
 -- ---- fields side by side
 
@@ -162,6 +162,22 @@ side-late xs side n seen {w} {at} {us} {zs} h s q f p e =
     e ∙ ap (λ (u : List ℕ). overlay u 54 (bytesBe 1 w)) (f ∙ ap (λ (i : ℕ). overlay xs i (bytesFor (longNumbersRows i) (longNumbersFields n))) q)
     ∙ late xs h n (sideAt side) w (r .0) (omega (arith, r .1))
     ∙ ap (λ (v : ℕ). overlay (overlay xs 54 (bytesBe 1 v)) (sideAt side) (bytesFor (longNumbersRows (sideAt side)) (longNumbersFields n))) (p ∙ ap (seenWith side) s)
+
+-- and the time between the two
+time-room : (side : Side) → (55 ≤ sideTimeAt side) × (sideTimeAt side ≤ 114)
+time-room Bid = (omega arith, omega arith)
+time-room Ask = (omega arith, omega arith)
+
+pub side-timed-late : (xs : List ℕ) (side : Side) (n : LongNumbers) (seen time : ℕ) {w at : ℕ} {us vs zs : List ℕ} → rowSize ≤ length xs → seen ≡ sidesOf xs
+    → at ≡ sideAt side → us ≡ overlay xs at (bytesFor (longNumbersRows at) (longNumbersFields n)) → vs ≡ overlay us (sideTimeAt side) (bytesBe 8 time)
+    → w ≡ seenWith side seen → zs ≡ overlay vs 54 (bytesBe 1 w) → zs ≡ changed (ownChanges (One side n) (sidesOf xs) time) xs
+unfolding digits
+side-timed-late xs side n seen time {w} {at} {us} {vs} {zs} h s q f t p e =
+    let r = side-room side in
+    let i = time-room side in
+    let l : length us ≡ length xs = ap length f ∙ still xs h n at (rw q (omega (arith, r .1))) in
+    one-timed xs side n (sidesOf xs) time (side-late xs side n seen h s q f p refl)
+    (e ∙ ap (λ (u : List ℕ). overlay u 54 (bytesBe 1 w)) t ∙ sym (overlay-swap us 54 (bytesBe 1 w) (sideTimeAt side) (bytesBe 8 time) (i .0) (rw l (omega (arith, i .1)))))
 
 pub both-late : (xs : List ℕ) (bid ask : LongNumbers) (seen : ℕ) {v w : ℕ} {us vs zs : List ℕ} → rowSize ≤ length xs → seen ≡ sidesOf xs
     → us ≡ overlay xs 56 (bytesFor (longNumbersRows 56) (longNumbersFields bid)) → vs ≡ overlay us 76 (bytesFor (longNumbersRows 76) (longNumbersFields ask))

@@ -31,13 +31,16 @@ fn marks_keep(row: &[u8]) -> bool
         & (codes::is_condition(field::read1(row, 53)) & (fields::sides(row) <= 3))
 }
 
+// A side that is all zero has a price in range, so the price is tested where the side is seen.
 fn side_keeps(side: Side, row: &[u8]) -> bool
     requires { ⌜ rowSize ≤ length (now row) ⌝ }
     ensures { λ r. ⌜ r ≡ sideKeeps side (now (row .entry)) ⌝ }
 {
     let at = fields::side_at(side);
-    (fields::has_seen(side, fields::sides(row)) | text::only(row, at, 20, 0))
-        & limits::price_keeps(row, at + 4)
+    if !fields::has_seen(side, fields::sides(row)) {
+        return text::only(row, at, 20, 0);
+    }
+    limits::price_keeps(row, at + 4)
 }
 
 fn bare_keeps(row: &[u8]) -> bool
@@ -97,5 +100,8 @@ pub fn keep(version: u16, row: &[u8]) -> bool
     requires { ⌜ rowSize ≤ length (now row) ⌝ }
     ensures { λ r. ⌜ r ≡ rowKeeps version (now (row .entry)) ⌝ }
 {
-    common_keeps(row) & times_keep(version, row)
+    if !common_keeps(row) {
+        return false;
+    }
+    times_keep(version, row)
 }

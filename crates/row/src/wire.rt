@@ -79,15 +79,15 @@ fn put_short_both(row: &mut [u8], bytes: &[u8])
     put_times(row, bytes);
 }
 
-// The numbers come first: so the compiler does not join this arm's end to the short one's.
+// The numbers and the time come first: so the compiler does not join this arm's end to the short one's.
 fn put_long_side(row: &mut [u8], side: Side, bytes: &[u8])
     requires { ⌜ (rowSize ≤ length (now row)) × (36 ≤ length (now bytes)) ⌝ }
     ensures { λ r. ⌜ now (row .exit) ≡ changed (ownChanges (One side (longIn 16 (now (bytes .entry)))) (sidesOf (now (row .entry))) (stampIn (now (bytes .entry)) .time)) (now (row .entry)) ⌝ }
 {
     let seen = fields::sides(row);
     numbers::carry_long(bytes, 16, row, fields::side_at(side));
-    field::write1(row, 54, crate::seen_with(side, seen));
     put_time(row, side, bytes);
+    field::write1(row, 54, crate::seen_with(side, seen));
 }
 
 fn put_long_both(row: &mut [u8], bytes: &[u8])

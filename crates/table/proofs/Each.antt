@@ -7,10 +7,9 @@ use native.Mathlib.Nat.{zero-add, not-suc-le-zero}
 use native.Mathlib.Numerals.{add-one}
 use native.Mathlib.Decide.{ℕ-discrete}
 use native.Mathlib.Omega.{arith}
-use lib.ListN.{length, drop, length-drop}
-use lib.Seq.{take-length}
+use lib.ListN.{length}
 use Rattle.field.specs.Bytes.{part}
-use Rattle.field.proofs.Parts.{part-length, part-split, part-none, part-all, part-part}
+use Rattle.field.proofs.Parts.{part-split, part-none, part-all}
 use Rattle.row.specs.Fields.{rowSize}
 use Rattle.table.specs.Memory.{rowAt, row, withRow, eachRow}
 use Rattle.table.proofs.Rows.{row-length, with-length, row-own, row-other, behind}

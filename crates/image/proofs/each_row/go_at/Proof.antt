@@ -1,10 +1,10 @@
--- `image::moves::go_at` meets its contract.
+-- `image::each_row::go_at` meets its contract.
 -- Assumes nothing.
 use Rattle.field.specs.Bytes.{part}
 use Rattle.image.proofs.Steps.{gone}
 use borrow.Author.Needs.{needs}
-use Rattle.image.proofs.moves.go_at.Statement.{statement}
-use Rattle.image.proofs.moves.go_at.Tie as tie
+use Rattle.image.proofs.each_row.go_at.Statement.{statement}
+use Rattle.image.proofs.each_row.go_at.Tie as tie
 
 returns : tie.Need-returns
 unfolding part

@@ -1,9 +1,9 @@
--- `image::moves::renew` meets its contract.
+-- `image::each_row::renew` meets its contract.
 -- Assumes nothing.
 use Rattle.image.proofs.Steps.{renew-older, renew-newest}
 use borrow.Author.Needs.{needs}
-use Rattle.image.proofs.moves.renew.Statement.{statement}
-use Rattle.image.proofs.moves.renew.Tie as tie
+use Rattle.image.proofs.each_row.renew.Statement.{statement}
+use Rattle.image.proofs.each_row.renew.Tie as tie
 
 returns : tie.Need-returns
 returns c = search (renew-older, needs)

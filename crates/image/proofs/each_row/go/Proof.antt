@@ -1,9 +1,9 @@
--- `image::moves::go` meets its contract.
+-- `image::each_row::go` meets its contract.
 -- Assumes nothing.
 use Rattle.image.proofs.Steps.{go-forward, go-back}
 use borrow.Author.Needs.{needs}
-use Rattle.image.proofs.moves.go.Statement.{statement}
-use Rattle.image.proofs.moves.go.Tie as tie
+use Rattle.image.proofs.each_row.go.Statement.{statement}
+use Rattle.image.proofs.each_row.go.Tie as tie
 
 returns : tie.Need-returns
 returns c = search (go-forward, needs)
