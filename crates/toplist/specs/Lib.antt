@@ -1,2 +1,1 @@
 pub mod Feeding
-pub mod Loading

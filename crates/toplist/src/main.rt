@@ -2,6 +2,12 @@
 use arguments::Wanted;
 use block::BLOCK_SIZE;
 use files::Loaded;
+use files::complaints;
+use files::status;
+use files::status::FAILED;
+use files::status::FINE;
+use files::status::REFUSED;
+use files::status::WRONG;
 use image::MOST_BLOCKS;
 use image::Saved;
 use image::Verdict;
@@ -17,8 +23,6 @@ use table::TABLE_SIZE;
 use table::index::INDEX_SIZE;
 
 mod arguments;
-mod files;
-mod links;
 mod progress;
 mod session;
 
@@ -30,17 +34,7 @@ const MOST_IMAGE: usize = MOST_BLOCKS * BLOCK_SIZE;
 // Room for a block more, so that a longer file is seen to be too long.
 const LONGER_IMAGE: usize = MOST_IMAGE + BLOCK_SIZE;
 
-// What a program that can answer one would end with: all went well, a file failed, wrong arguments, refused.
-const FINE: u8 = 0;
-
-const FAILED: u8 = 1;
-
-const WRONG: u8 = 2;
-
-const REFUSED: u8 = 3;
-
-// Where it is said, if it is asked for.
-const STATUS_FILENO: i32 = 3;
+const PROGRAM: [u8; 7] = *b"toplist";
 
 fn print_help() {
     io::write_all(
@@ -61,15 +55,7 @@ fn print_refused(what: &[u8], number: u8) {
     io::write_all(STDOUT_FILENO, b"refused ");
     io::print_decimal(STDOUT_FILENO, number as u64);
     io::write_all(STDOUT_FILENO, b"\n");
-    print_not(what, b": no saved table: refused ", number);
-}
-
-fn print_not(what: &[u8], why: &[u8], number: u8) {
-    io::write_all(STDERR_FILENO, b"toplist: ");
-    io::write_all(STDERR_FILENO, what);
-    io::write_all(STDERR_FILENO, why);
-    io::print_decimal(STDERR_FILENO, number as u64);
-    io::write_all(STDERR_FILENO, b"\n");
+    complaints::refusal(&PROGRAM, what, b": no saved table: refused ", number);
 }
 
 // What became of a line of the listing: it was written, there is none, or it could not be, which was said.
@@ -83,7 +69,7 @@ fn print_text(text: &[u8]) -> Printed {
     if io::write_all(STDOUT_FILENO, text) {
         return Printed::Line;
     }
-    files::complain_output();
+    complaints::output(&PROGRAM);
     Printed::Failed
 }
 
@@ -97,7 +83,8 @@ fn print_line(k: usize, reader: Reader, table: &[u8], ending: Ending) -> Printed
         Shown::Line(n) => print_text(&text[..n]),
         Shown::Past => Printed::Past,
         Shown::Unfit => {
-            print_not(
+            complaints::refusal(
+                &PROGRAM,
                 b"the table",
                 b": not listed: refused ",
                 table::refusal_number(table::Refusal::Unfit),
@@ -129,10 +116,15 @@ fn save(reader: Reader, table: &[u8], path: &[u8]) -> bool {
             if n > MOST_IMAGE {
                 return false;
             }
-            files::store(path, &image[..n])
+            files::store(&PROGRAM, path, &image[..n])
         }
         Saved::Unsaved(r) => {
-            print_not(path, b": not saved: refused ", image::refusal_number(r));
+            complaints::refusal(
+                &PROGRAM,
+                path,
+                b": not saved: refused ",
+                image::refusal_number(r),
+            );
             false
         }
     }
@@ -197,7 +189,7 @@ fn resume(
 ) -> Begun {
     let n = os::arg(from, path);
     let mut saved = [0u8; LONGER_IMAGE];
-    match files::load(&path[..n], &mut saved) {
+    match files::load(&PROGRAM, &path[..n], &mut saved) {
         Loaded::Bytes(size) => restored(&path[..n], &saved[..size], table, index),
         Loaded::Failed => none(fresh, FAILED),
     }
@@ -217,7 +209,7 @@ fn open_session(argument: usize, path: &mut [u8]) -> i32 {
         return STDIN_FILENO;
     }
     let n = os::arg(argument, path);
-    files::open(&path[..n])
+    files::open(&PROGRAM, &path[..n])
 }
 
 // What came of a session that could not be read to its end is saved; where nothing came, a file that is there stays.
@@ -230,11 +222,11 @@ fn salvage(argument: usize, heard: Heard, table: &[u8], path: &mut [u8]) {
 // Why the session could not be read to its end.
 fn complain(argument: usize, error: i32, path: &mut [u8]) {
     if argument == 0 {
-        files::complain_input(b"standard input", error);
+        complaints::input(&PROGRAM, b"standard input", error);
         return;
     }
     let n = os::arg(argument, path);
-    files::complain_input(&path[..n], error);
+    complaints::input(&PROGRAM, &path[..n], error);
 }
 
 // Saved first, and then listed.
@@ -305,6 +297,6 @@ fn main() {
     let wanted = arguments::read();
     let status = answer(wanted);
     if wanted.status {
-        io::print_decimal(STATUS_FILENO, status as u64);
+        status::write(status);
     }
 }

@@ -7,7 +7,7 @@ use borrow.Author.Needs.{needs}
 use lib.ListN.{length}
 use Rattle.listing.specs.Lines.{lineSize}
 use Rattle.listing.proofs.Puts.{short-line}
-use Rattle.toplist.proofs.Fronts.{front-length}
+use Rattle.files.proofs.Fronts.{front-length}
 use Rattle.toplist.proofs.print_line.Statement.{statement}
 use Rattle.toplist.proofs.print_line.Tie as tie
 
@@ -27,4 +27,4 @@ slice-aggregate-print-text c = front-length _ _ (inside (c .before))
 pub print-line-spec : {M : Type 1} → statement M
 print-line-spec =
     tie.close
-    (tie.spec (λ c κs. search needs) (λ c. search needs) array-share-prefix-text slice-aggregate-print-text (λ c κs. search needs) (λ c. search needs) (λ c. search needs) (λ c. search needs) (λ c. search needs) (λ c κs. search needs) (λ c κs. search needs) (λ c. search needs) (λ c. search needs) (λ c. search needs))
+    (tie.spec (λ c κs. search needs) (λ c. search needs) array-share-prefix-text slice-aggregate-print-text (λ c κs. search needs) (λ c. search needs) (λ c. search needs) (λ c. search needs) (λ c. search needs) (λ c. search needs) (λ c κs. search needs) (λ c κs. search needs) (λ c. search needs) (λ c. search needs) (λ c. search needs))

@@ -1,6 +1,6 @@
 -- `toplist::resume` meets its contract.
 -- Assumes nothing.
-use Rattle.toplist.proofs.Fronts.{front-length, loaded-within}
+use Rattle.files.proofs.Fronts.{front-length, loaded-within}
 use borrow.Author.Needs.{needs}
 use Rattle.toplist.proofs.resume.Statement.{statement}
 use Rattle.toplist.proofs.resume.Tie as tie
@@ -14,4 +14,4 @@ slice-aggregate-restored-2 c = front-length _ _ (loaded-within _ (c .before .bef
 pub resume-spec : {M : Type 1} → statement M
 resume-spec =
     tie.close
-    (tie.spec (λ c κs. search needs) (λ c. search needs) (λ c. search needs) (λ c. search needs) (λ c κs. search needs) (λ c. search needs) (λ c. search needs) (λ c. search needs) array-share-prefix-saved slice-aggregate-restored-2 (λ c κs. search needs) (λ c. search needs) (λ c κs. search needs) (λ c. search needs) (λ c. search needs) (λ c. search needs) (λ c. search needs) (λ c. search needs) (λ c. search needs))
+    (tie.spec (λ c κs. search needs) (λ c. search needs) (λ c. search needs) (λ c. search needs) (λ c. search needs) (λ c κs. search needs) (λ c. search needs) (λ c. search needs) (λ c. search needs) array-share-prefix-saved slice-aggregate-restored-2 (λ c κs. search needs) (λ c. search needs) (λ c κs. search needs) (λ c. search needs) (λ c. search needs) (λ c. search needs) (λ c. search needs) (λ c. search needs) (λ c. search needs))

@@ -5,9 +5,9 @@ use mathlib.Core.List.{List}
 use Prim.Native.Nat.{ℕ, _≤_}
 use native.Mathlib.Omega.{arith}
 use lib.ListN.{length, take, length-take}
-use Rattle.toplist.specs.Loading.{LoadedIn}
-use Rattle.toplist.specs.declared.files.Loaded.{Loaded}
-use Rattle.toplist.specs.declared.files.Loaded.the-variants.{Bytes}
+use Rattle.files.specs.Loading.{LoadedIn}
+use Rattle.files.specs.declared.Loaded.{Loaded}
+use Rattle.files.specs.declared.Loaded.the-variants.{Bytes}
 
 pub front-length : (n : ℕ) (xs : List ℕ) → n ≤ length xs → n ≡ length (take n xs)
 front-length n xs h = omega (arith, length-take n xs)

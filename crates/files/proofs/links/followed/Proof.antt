@@ -1,12 +1,12 @@
--- `toplist::links::followed` meets its contract.
+-- `files::links::followed` meets its contract.
 -- Assumes nothing.
 use mathlib.Core.Path.{_≡_}
 use Prim.Native.Nat.{_≤_}
 use lib.ListN.{length}
 use native.Mathlib.Omega.{arith}
 use borrow.Author.Needs.{needs}
-use Rattle.toplist.proofs.links.followed.Statement.{statement}
-use Rattle.toplist.proofs.links.followed.Tie as tie
+use Rattle.files.proofs.links.followed.Statement.{statement}
+use Rattle.files.proofs.links.followed.Tie as tie
 
 abbrev Inv-loop : tie.InvT-loop
 Inv-loop path₀ n text₀ size₀ turns₀ path text size turns = (size ≤ length path) × (length path ≡ length path₀) × (length text ≡ 4096)

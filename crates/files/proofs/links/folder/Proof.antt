@@ -1,9 +1,9 @@
--- `toplist::links::folder` meets its contract.
+-- `files::links::folder` meets its contract.
 -- Assumes nothing.
 use Prim.Native.Nat.{_≤_}
 use native.Mathlib.Omega.{arith}
-use Rattle.toplist.proofs.links.folder.Statement.{statement}
-use Rattle.toplist.proofs.links.folder.Tie as tie
+use Rattle.files.proofs.links.folder.Statement.{statement}
+use Rattle.files.proofs.links.folder.Tie as tie
 
 abbrev Inv-loop : tie.InvT-loop
 Inv-loop path n i₀ i = i ≤ n

@@ -1,10 +1,10 @@
--- `toplist::files::store` meets its contract.
+-- `files::store` meets its contract.
 -- Assumes nothing.
 use native.Mathlib.Omega.{arith}
-use Rattle.toplist.proofs.Fronts.{front-length}
+use Rattle.files.proofs.Fronts.{front-length}
 use borrow.Author.Needs.{needs}
-use Rattle.toplist.proofs.files.store.Statement.{statement}
-use Rattle.toplist.proofs.files.store.Tie as tie
+use Rattle.files.proofs.store.Statement.{statement}
+use Rattle.files.proofs.store.Tie as tie
 
 slice-aggregate-store-at : tie.Need-slice-aggregate-store-at
 slice-aggregate-store-at c = front-length _ _ (c .before .before .before .before .followed .ensures)

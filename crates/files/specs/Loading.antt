@@ -3,8 +3,8 @@
 use Prim.Native.Nat.{ℕ, _≤_}
 use mathlib.Core.List.{List}
 use lib.ListN.{length}
-use Rattle.toplist.specs.declared.files.Loaded.{Loaded}
-use Rattle.toplist.specs.declared.files.Loaded.the-variants.{Bytes, Failed}
+use Rattle.files.specs.declared.Loaded.{Loaded}
+use Rattle.files.specs.declared.Loaded.the-variants.{Bytes, Failed}
 
 abbrev pub LoadedIn : Loaded → List ℕ → Type 0
 LoadedIn (Bytes n) space = n ≤ length space
