@@ -24,7 +24,7 @@ use Rattle.image.specs.declared.Saved.the-variants.{Whole}
 use Rattle.image.specs.declared.Verdict.the-variants.{Accepted, Refused}
 use Rattle.image.specs.declared.Way.the-variants.{Forward, Back}
 use Rattle.image.proofs.Rounds.{taken, saved-restored, saved-version}
-use Rattle.image.proofs.Before.{restored-before, made-before, not-3, version-3-refused, refused-by-it, back-taken}
+use Rattle.image.proofs.Before.{restored-before, made-before, made-not-3, not-3, version-3-refused, refused-by-it, back-taken}
 use Rattle.reader.specs.View.{sessionOf, stateOf}
 use Rattle.reader.specs.Saving.{headerOf, lineOf, Saves, Restores}
 use Rattle.reader.specs.declared.Reader.{Reader}
@@ -55,6 +55,11 @@ module _ (p : Program) (f : Former p) where
       pub made-on : (q .verdict ≡ Accepted)
           × (stateOf (q .reader) t₁ ≡ live (sessionOf (lineOf h) (h .board) (indexed (h .board .rows) (eachRow forwardRow (h .board .rows) (cleared (h .board .rows) (widened p mem))))) [])
       made-on = gives (part image 0 n) t q t₁ r index h _ (made-before p f h mem made (t .table) image n ten e table)
+
+      pub made-saves-on : Bytes (part image 0 n) → (out : List ℕ) → length (part image 0 n) ≤ length out → (a : Saved) (z : List ℕ)
+          → Saves (q .reader) (t₁ .table) out a z → (a ≡ Whole (length (part image 0 n))) × (z ≡ overlay out 0 (movedOf Forward (part image 0 n)))
+      made-saves-on b out room a z s =
+          goes-forward (part image 0 n) t q t₁ r (made-on .0) b (made-not-3 p f h mem made (t .table) image n ten e) out room a z s
 
   -- ---- READERS OF BEFORE
 

@@ -9,14 +9,13 @@ use lib.ListN.{length}
 use Rattle.field.specs.Bytes.{part, overlay, Bytes}
 use Rattle.image.specs.Save as images
 use Rattle.image.specs.Save.{Saving, saving}
-use Rattle.image.specs.Moves.{moveOf}
+use Rattle.image.specs.Moves.{moveOf, AllUnknown}
 use Rattle.image.specs.declared.Refusal.{Refusal}
 use Rattle.image.specs.declared.Refusal.the-variants.{Unfit, BadLength, BadCheck, BadHead, BadContents, ShortOutput}
 use Rattle.image.specs.declared.Saved.{Saved}
 use Rattle.image.specs.declared.Saved.the-variants.{Whole, Unsaved}
 use Rattle.image.specs.declared.Way.{Way}
 use Rattle.image.specs.declared.Way.the-variants.{Forward, Back}
-use Rattle.image.proofs.Moved.{AllUnknown}
 use Rattle.image.proofs.Calls.{forward-back-calls, back-forward-calls, back-forward-only, unmoved-leaves}
 use Rattle.record.specs.Record.{Answered}
 use Rattle.reader.specs.Saving.{writtenOf, writtenBy}

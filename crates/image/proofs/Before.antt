@@ -372,6 +372,9 @@ module _ (p : Program) (o : Former p) where
     pub made-taken : verdictIn Older (part z 0 n) ≡ Accepted
     made-taken = rw made-image made-older
 
+    pub made-not-3 : eqb (versionOf (part z 0 n)) newest ≡ false
+    made-not-3 = ne-eqb (versionOf (part z 0 n)) newest (older (versionOf (part z 0 n)) (kept Older (part z 0 n) made-taken .1))
+
     -- AND RESTORED, to the same header and the same table, with the time of each seen side unknown
     pub made-before : length now ≡ tableSize → restoreOf (part z 0 n) now ≡ restoring (restored Accepted h) (eachRow forwardRow rows (cleared rows (widened p mem)))
     unfolding restoreOf restoredBy

@@ -15,7 +15,7 @@ use Rattle.image.specs.Shape.{welcome}
 use Rattle.image.specs.Header.{headerOf}
 use Rattle.image.specs.Save.{Saving, saving, unsaved}
 use Rattle.image.specs.Restore.{verdictIn}
-use Rattle.image.specs.Moves.{wantedBy, versionAfter, movedOf, movedBy, moveOf}
+use Rattle.image.specs.Moves.{wantedBy, versionAfter, movedOf, movedBy, moveOf, AllUnknown}
 use Rattle.image.specs.declared.Refusal.{Refusal}
 use Rattle.image.specs.declared.Refusal.the-variants.{ShortOutput}
 use Rattle.image.specs.declared.Saved.the-variants.{Whole, Unsaved}
@@ -24,7 +24,7 @@ use Rattle.image.specs.declared.Verdict.the-variants.{Accepted, Refused}
 use Rattle.image.specs.declared.Way.{Way}
 use Rattle.image.specs.declared.Way.the-variants.{Forward, Back}
 use Rattle.image.proofs.Again.{Kept, kept}
-use Rattle.image.proofs.Moved.{AllUnknown, moved-size, moved-accepted, old-welcome, forward-then-back, unknown-then-same, same-then-unknown}
+use Rattle.image.proofs.Moved.{moved-size, moved-accepted, old-welcome, forward-then-back, unknown-then-same, same-then-unknown}
 
 -- ---- what it means that an image was moved
 

@@ -24,7 +24,7 @@ use Rattle.image.specs.Shape.{rowsOfVersion1, oldVersion, welcome, place
 use Rattle.image.specs.Header.{headerOf}
 use Rattle.image.specs.Save.{imageIn}
 use Rattle.image.specs.Restore.{countOf, lengthKeeps, checksKeep, headsKeep, contentsKeep, versionOf, verdictIn, verdictOf, rowsOf, memoryOf, restored, restoring, restoredBy, restoreOf}
-use Rattle.image.specs.Moves.{versionAfter, along, movedOf, knownIn, lostBy, lostOf}
+use Rattle.image.specs.Moves.{versionAfter, along, movedOf, AllUnknown, knownIn, lostBy, lostOf}
 use Rattle.image.specs.declared.Header.{Header}
 use Rattle.image.specs.declared.Refusal.the-variants.{Unfit, BadLength, BadCheck, BadHead, BadContents}
 use Rattle.image.specs.declared.Verdict.the-variants.{Accepted, Refused}
@@ -131,10 +131,6 @@ forward-then-back image bytes e =
     ∙ image-again image k bytes
 
 -- ---- BACK THEN FORWARD DOES SO EXACTLY WHEN EVERY SEEN SIDE'S TIME WAS UNKNOWN
-
--- in every row in use
-abbrev pub AllUnknown : List ℕ → Type 0
-AllUnknown image = (j : ℕ) → j < headerOf image .board .rows → TimesUnknown (row j (rowsOf image))
 
 module _ (image : List ℕ) (k : Kept image) where
   pub rows-are : (j : ℕ) → j < headerOf image .board .rows → row j (rowsOf image) ≡ part image (placeOf firstPage blockSize j) rowSize

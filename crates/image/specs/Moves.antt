@@ -1,13 +1,13 @@
 -- W-209. Moving a whole image to version 3 and back: what a move answers and leaves in the output, and how many times the way back loses.
 -- Assumes nothing.
-use Prim.Native.Nat.{ℕ, zero, suc, _+_, _-_, _*_}
+use Prim.Native.Nat.{ℕ, zero, suc, _+_, _-_, _*_, _<_}
 use mathlib.Core.Bool.{cond}
 use mathlib.Core.List.{List}
 use lib.Dec.{leb}
 use lib.ListN.{length}
 use Rattle.field.specs.Bytes.{overlay}
 use Rattle.row.specs.Rules.{newest}
-use Rattle.row.specs.Moves.{forwardRow, backRow, knownTimes}
+use Rattle.row.specs.Moves.{forwardRow, backRow, TimesUnknown, knownTimes}
 use Rattle.table.specs.Memory.{row, eachRow}
 use Rattle.image.specs.Shape.{pageRows, oldVersion}
 use Rattle.image.specs.Header.{headerOf}
@@ -58,6 +58,10 @@ unfoldable pub moveOf : Way → List ℕ → List ℕ → Saving
 moveOf way image out = movedBy (verdictIn (wantedBy way) image) way image out
 
 -- ---- what is lost on the way back
+
+-- the time of every seen side is unknown, in every row in use
+abbrev pub AllUnknown : List ℕ → Type 0
+AllUnknown image = (j : ℕ) → j < headerOf image .board .rows → TimesUnknown (row j (rowsOf image))
 
 -- how many times of seen sides are known in the first n rows
 unfoldable pub knownIn : ℕ → List ℕ → ℕ
