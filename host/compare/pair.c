@@ -231,6 +231,17 @@ static void copy_reader(struct world *to, const struct world *from)
     memcpy(to->index, from->index, sizeof to->index);
 }
 
+/* The library's memory is what it was by the other way, which `stepped` keeps. */
+static bool same_reader(struct pair *p)
+{
+    return same_memory(p, "handle, beside that by the other way,", p->library.handle, p->stepped.handle,
+                       sizeof p->stepped.handle) &&
+           same_memory(p, "index, beside that by the other way,", p->library.index, p->stepped.index,
+                       sizeof p->stepped.index) &&
+           same_memory(p, "table, beside that by the other way,", p->library.table, p->stepped.table,
+                       sizeof p->stepped.table);
+}
+
 /* A run must answer and leave what the library's own steps do. */
 static bool same_as_steps(struct pair *p, const struct call *c, const uint8_t *input, size_t n,
                           uint64_t got)
@@ -239,13 +250,7 @@ static bool same_as_steps(struct pair *p, const struct call *c, const uint8_t *i
                                   p->stepped.table + GUARD_BYTES, c->table_n,
                                   p->stepped.index + GUARD_BYTES, c->index_n, input, n,
                                   (uint32_t)c->k);
-    return same_answer(p, got, wanted) &&
-           same_memory(p, "handle, beside steps,", p->library.handle, p->stepped.handle,
-                       sizeof p->stepped.handle) &&
-           same_memory(p, "index, beside steps,", p->library.index, p->stepped.index,
-                       sizeof p->stepped.index) &&
-           same_memory(p, "table, beside steps,", p->library.table, p->stepped.table,
-                       sizeof p->stepped.table);
+    return same_answer(p, got, wanted) && same_reader(p);
 }
 
 /* One call on both sides, each with its own input; all but the table is
@@ -418,13 +423,7 @@ static bool restored_alike(struct pair *p, const uint8_t *old, const uint8_t *mo
     if (!restore_from(p, old, n))
         return false;
     copy_reader(&p->stepped, &p->library);
-    return restore_from(p, moved, n) &&
-           same_memory(p, "handle, beside that of the old image,", p->library.handle, p->stepped.handle,
-                       sizeof p->stepped.handle) &&
-           same_memory(p, "index, beside that of the old image,", p->library.index, p->stepped.index,
-                       sizeof p->stepped.index) &&
-           same_memory(p, "table, beside that of the old image,", p->library.table, p->stepped.table,
-                       sizeof p->stepped.table);
+    return restore_from(p, moved, n) && same_reader(p);
 }
 
 /* Moves an image one way and then the other. */
