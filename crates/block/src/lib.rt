@@ -1,4 +1,6 @@
 // A block of 512 bytes: its head, and the check of all that stands before the check.
+#![tactic(auto)]
+
 ghost use Rattle.std.specs.Prelude.{◌≡◌, ◌+◌, ◌-◌, ◌≤◌, ◌<◌, length};
 ghost use Rattle.field.specs.Bytes.{part, overlay, bytes_be};
 ghost use Rattle.block.specs.Block.{block_size, head_size, checked_size, check_of, head_bytes, head_at, same_head, check_keeps};
@@ -23,7 +25,7 @@ const STRIPS: usize = 15;
 
 const STRIP_SIZE: usize = CHECKED_SIZE / STRIPS;
 
-#[derive(Drop)]
+#[derive(Clone, Copy)]
 pub struct Head {
     // The block's place, from 0.
     pub number: u16,

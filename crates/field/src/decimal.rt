@@ -7,7 +7,7 @@ use crate::limits::HIGHEST_NUMBER;
 use crate::text;
 
 // What characters write: a number from 1 to 10^12, or none.
-#[derive(Drop)]
+#[derive(Clone, Copy)]
 pub enum Number {
     Is(u64),
     Bad,

@@ -1,4 +1,6 @@
 // Fields of a byte buffer: numbers of one, two, four and eight bytes, the highest byte first, and runs of bytes.
+#![tactic(auto)]
+
 ghost use Rattle.std.specs.Prelude.{◌≡◌, ◌+◌, ◌≤◌, ◌<◌, ◌^◌, length, replicate};
 ghost use Rattle.field.specs.Bytes.{part, overlay, be, bytes_be, turned, same};
 

@@ -1,4 +1,6 @@
 // Files by their names: opened and read, and replaced whole or not at all. What fails is said in the name of the program that asked for it.
+#![tactic(auto)]
+
 ghost use Rattle.std.specs.Prelude.{◌≤◌, length};
 ghost use Rattle.files.specs.Loading.{LoadedIn};
 
@@ -11,7 +13,7 @@ pub mod status;
 // No name that is written is longer, so that there is room for a dot and six letters behind it.
 const MOST_NAME: usize = 4000;
 
-#[derive(Drop)]
+#[derive(Clone, Copy)]
 pub enum Loaded {
     Bytes(usize),
     Failed,

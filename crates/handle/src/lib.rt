@@ -1,4 +1,6 @@
 // The handle in bytes: its head, and behind that the places of its held bytes.
+#![tactic(auto)]
+
 ghost use Rattle.std.specs.Prelude.{◌≡◌, ◌++◌, ◌≤◌, length};
 ghost use Rattle.field.specs.Bytes.{overlay, bytes_be};
 ghost use Rattle.handle.specs.Handle.{handle_size, is_handle, head_of, head_bytes, flag, number_bytes, mark_bytes, next_field, live_field, rows_field, used_field, ended_field, refusal_field, event_field, with_field};
@@ -33,7 +35,7 @@ const REFUSAL: usize = 45;
 const EVENT: usize = 46;
 
 // The handle but for the places of its held bytes.
-#[derive(Drop)]
+#[derive(Clone, Copy)]
 pub struct Head {
     pub line: Line,
     pub board: Board,

@@ -1,5 +1,7 @@
 // Demand 3 and the moves of saved tables for a host in C, as theorems over the promises of its calls: see specs/ and proofs/. The code here is such a host's own calls, so that
 // what the theorems ask of a call is what the library promises.
+#![tactic(auto)]
+
 ghost use Rattle.table.specs.Memory.{memories};
 ghost use Rattle.reader.specs.Handles.{HostSteps};
 ghost use Rattle.reader.specs.Running.{HostRuns};

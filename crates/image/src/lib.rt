@@ -1,4 +1,6 @@
 // The saved table: blocks of 512 bytes that come back byte for byte.
+#![tactic(auto)]
+
 ghost use Rattle.std.specs.Prelude.{◌≡◌};
 ghost use Rattle.image.specs.Header.{fresh_header, within_limits};
 ghost use Rattle.image.specs.Save.{refusal_number, saving, save_of};
@@ -21,7 +23,7 @@ pub const PAGE_ROWS: usize = 4;
 pub const MOST_BLOCKS: usize = 1 + table::MOST_ROWS / PAGE_ROWS;
 
 // What is saved beside the rows.
-#[derive(Drop)]
+#[derive(Clone, Copy)]
 pub struct Header {
     // Ten spaces while no session is known.
     pub session: [u8; 10],
@@ -30,7 +32,7 @@ pub struct Header {
     pub board: Board,
 }
 
-#[derive(Drop)]
+#[derive(Clone, Copy)]
 pub enum Refusal {
     // Table memory of the wrong length, or a header outside its limits.
     Unfit,
@@ -47,7 +49,7 @@ pub enum Refusal {
 }
 
 // The versions that a call takes: any, those before version 3, version 3.
-#[derive(Drop)]
+#[derive(Clone, Copy)]
 pub enum Wanted {
     Any,
     Older,
@@ -55,26 +57,26 @@ pub enum Wanted {
 }
 
 // An image is moved to version 3, or back to the one that its rows had before.
-#[derive(Drop)]
+#[derive(Clone, Copy)]
 pub enum Way {
     Forward,
     Back,
 }
 
-#[derive(Drop)]
+#[derive(Clone, Copy)]
 pub enum Saved {
     // So many bytes were written.
     Whole(usize),
     Unsaved(Refusal),
 }
 
-#[derive(Drop)]
+#[derive(Clone, Copy)]
 pub enum Verdict {
     Accepted,
     Refused(Refusal),
 }
 
-#[derive(Drop)]
+#[derive(Clone, Copy)]
 pub struct Restored {
     pub verdict: Verdict,
     pub header: Header,

@@ -1,4 +1,6 @@
 // The listing's text, a line at a time.
+#![tactic(auto)]
+
 ghost use Rattle.std.specs.Prelude.{◌≡◌, ◌++◌, ◌+◌, ◌≤◌, cond, eqb, length};
 ghost use Rattle.field.specs.Bytes.{overlay};
 ghost use Rattle.field.specs.Decimal.{chars};
@@ -13,7 +15,7 @@ use row::fields;
 pub const LINE_SIZE: usize = 80;
 
 // What there is to show for the number of a line.
-#[derive(Drop)]
+#[derive(Clone, Copy)]
 pub enum Shown {
     // A line of so many bytes.
     Line(usize),
@@ -24,14 +26,14 @@ pub enum Shown {
 }
 
 // The bytes of a line, and zeros behind them.
-#[derive(Drop)]
+#[derive(Clone, Copy)]
 pub struct Text {
     pub text: [u8; LINE_SIZE],
     pub shown: Shown,
 }
 
 // How the input ended.
-#[derive(Drop)]
+#[derive(Clone, Copy)]
 pub enum Ending {
     RanOut,
     Ended,

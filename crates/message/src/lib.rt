@@ -1,4 +1,6 @@
 // The messages of the feed: ten letters, read from their bytes and written to them.
+#![tactic(auto)]
+
 ghost use Rattle.std.specs.Prelude.{◌≡◌};
 ghost use Rattle.message.specs.Letters.{no_texts};
 ghost use Rattle.message.specs.Message.{refusal_number, write_refusal_number, refused, read_of, outcome, write_of};
@@ -15,34 +17,34 @@ mod take;
 pub mod test;
 
 // The tracking number, and the nanoseconds since midnight.
-#[derive(Drop)]
+#[derive(Clone, Copy)]
 pub struct Stamp {
     pub tracking: u16,
     pub time: u64,
 }
 
-#[derive(Drop)]
+#[derive(Clone, Copy)]
 pub enum Side {
     Bid,
     Ask,
 }
 
 // What a side bids or asks: a price above zero, in ten-thousandths of a dollar, or none. Zero is no price above zero.
-#[derive(Drop)]
+#[derive(Clone, Copy)]
 pub enum Price {
     Above(u32),
     None,
 }
 
 // The same for a short side, in pennies.
-#[derive(Drop)]
+#[derive(Clone, Copy)]
 pub enum ShortPrice {
     Above(u16),
     None,
 }
 
 // One side of a quote in two bytes each: the price is in pennies.
-#[derive(Drop)]
+#[derive(Clone, Copy)]
 pub struct ShortNumbers {
     pub market: u16,
     pub price: ShortPrice,
@@ -52,7 +54,7 @@ pub struct ShortNumbers {
 }
 
 // One side of a quote in four bytes each: the price is in ten-thousandths of a dollar.
-#[derive(Drop)]
+#[derive(Clone, Copy)]
 pub struct LongNumbers {
     pub market: u32,
     pub price: Price,
@@ -61,14 +63,14 @@ pub struct LongNumbers {
     pub professional: u32,
 }
 
-#[derive(Drop)]
+#[derive(Clone, Copy)]
 pub struct SystemEvent {
     pub stamp: Stamp,
     pub code: u8,
 }
 
 // An instrument's own fields, but for its texts.
-#[derive(Drop)]
+#[derive(Clone, Copy)]
 pub struct Instrument {
     pub id: u32,
     pub year: u8,
@@ -81,20 +83,20 @@ pub struct Instrument {
     pub variation: u8,
 }
 
-#[derive(Drop)]
+#[derive(Clone, Copy)]
 pub struct Directory {
     pub stamp: Stamp,
     pub instrument: Instrument,
 }
 
-#[derive(Drop)]
+#[derive(Clone, Copy)]
 pub struct TradingAction {
     pub stamp: Stamp,
     pub id: u32,
     pub state: u8,
 }
 
-#[derive(Drop)]
+#[derive(Clone, Copy)]
 pub struct ShortQuote {
     pub stamp: Stamp,
     pub id: u32,
@@ -103,7 +105,7 @@ pub struct ShortQuote {
     pub ask: ShortNumbers,
 }
 
-#[derive(Drop)]
+#[derive(Clone, Copy)]
 pub struct LongQuote {
     pub stamp: Stamp,
     pub id: u32,
@@ -112,7 +114,7 @@ pub struct LongQuote {
     pub ask: LongNumbers,
 }
 
-#[derive(Drop)]
+#[derive(Clone, Copy)]
 pub struct ShortSide {
     pub stamp: Stamp,
     pub id: u32,
@@ -121,7 +123,7 @@ pub struct ShortSide {
     pub numbers: ShortNumbers,
 }
 
-#[derive(Drop)]
+#[derive(Clone, Copy)]
 pub struct LongSide {
     pub stamp: Stamp,
     pub id: u32,
@@ -130,12 +132,12 @@ pub struct LongSide {
     pub numbers: LongNumbers,
 }
 
-#[derive(Drop)]
+#[derive(Clone, Copy)]
 pub struct EndOfReplay {
     pub number: u64,
 }
 
-#[derive(Drop)]
+#[derive(Clone, Copy)]
 pub enum Message {
     SystemEvent(SystemEvent),
     Directory(Directory),
@@ -148,40 +150,40 @@ pub enum Message {
 }
 
 // The texts of a directory, which travel beside its record; zeros beside any other.
-#[derive(Drop)]
+#[derive(Clone, Copy)]
 pub struct Texts {
     pub symbol: [u8; 8],
     pub underlying: [u8; 13],
     pub reserved: [u8; 16],
 }
 
-#[derive(Drop)]
+#[derive(Clone, Copy)]
 pub enum Refusal {
     UnknownLetter,
     WrongLength,
     BadField,
 }
 
-#[derive(Drop)]
+#[derive(Clone, Copy)]
 pub enum Answer {
     Is(Message),
     Refused(Refusal),
 }
 
-#[derive(Drop)]
+#[derive(Clone, Copy)]
 pub struct Reading {
     pub answer: Answer,
     pub texts: Texts,
 }
 
-#[derive(Drop)]
+#[derive(Clone, Copy)]
 pub enum WriteRefusal {
     BrokenRecord,
     ShortOutput,
 }
 
 // All of a message's bytes, so many; or nothing.
-#[derive(Drop)]
+#[derive(Clone, Copy)]
 pub enum Written {
     Whole(usize),
     Unwritten(WriteRefusal),

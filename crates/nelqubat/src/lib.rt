@@ -1,4 +1,6 @@
 // The calls for C: numbers and lent bytes only. Each answers a number whose low byte is the refusal, 0 for none.
+#![tactic(auto)]
+
 ghost use Rattle.std.specs.Prelude.{◌≡◌, ◌≤◌, [], length, take};
 ghost use Rattle.table.specs.Memory.{table_size, memories};
 ghost use Rattle.table.specs.Index.{index_size};

@@ -1,4 +1,6 @@
 // Packets from the server: framing, the packet table, the session line and its login. What a message does is not known here.
+#![tactic(auto)]
+
 ghost use Rattle.std.specs.Prelude.{◌≡◌, List, ℕ, ◌+◌, ◌≤◌, length};
 ghost use Rattle.field.specs.Bytes.{part, overlay};
 ghost use Rattle.packet.specs.Frame.{held_size, room_for, frame, front_of};
@@ -23,7 +25,7 @@ pub const SESSION_SIZE: usize = 10;
 const NUMBER_SIZE: usize = 20;
 
 // What stands at the front of some bytes; of a whole packet, its L.
-#[derive(Drop)]
+#[derive(Clone, Copy)]
 pub enum Framing {
     Short,
     BadLength,
@@ -31,7 +33,7 @@ pub enum Framing {
 }
 
 // A session, and where the reader is in it: is the session known, is it logged in, the next number.
-#[derive(Drop)]
+#[derive(Clone, Copy)]
 pub struct Line {
     pub session: [u8; SESSION_SIZE],
     pub known: bool,
@@ -40,7 +42,7 @@ pub struct Line {
 }
 
 // Why a packet is refused.
-#[derive(Drop)]
+#[derive(Clone, Copy)]
 pub enum Fault {
     BadLength,
     UnknownLetter,
@@ -51,7 +53,7 @@ pub enum Fault {
 }
 
 // What a whole packet is to a line.
-#[derive(Drop)]
+#[derive(Clone, Copy)]
 pub enum Packet {
     Login(u64),
     Rejected(u8),

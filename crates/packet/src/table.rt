@@ -2,13 +2,13 @@
 ghost use Rattle.std.specs.Prelude.{◌≡◌, ◌+◌, length};
 ghost use Rattle.packet.specs.Table.{packet_table, entry_of, takes_number, in_place, of_size};
 
-#[derive(Drop)]
+#[derive(Clone, Copy)]
 pub enum Size {
     Exact(usize),
     Any,
 }
 
-#[derive(Drop)]
+#[derive(Clone, Copy)]
 pub enum Meaning {
     LoginAccepted,
     LoginRejected,
@@ -18,14 +18,14 @@ pub enum Meaning {
     Skipped,
 }
 
-#[derive(Drop)]
+#[derive(Clone, Copy)]
 pub enum Place {
     BeforeLogin,
     AfterLogin,
     Anywhere,
 }
 
-#[derive(Drop)]
+#[derive(Clone, Copy)]
 pub enum Entry {
     Row(Size, Meaning, Place),
     Missing,

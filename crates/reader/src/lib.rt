@@ -1,4 +1,6 @@
 // The reader: a handle by value with the bytes of a packet that is not whole yet; it is started, stepped, and handed back.
+#![tactic(auto)]
+
 ghost use Rattle.std.specs.Prelude.{◌≡◌, true, cond, length};
 ghost use Rattle.record.specs.Places.{record_size};
 ghost use Rattle.table.specs.Memory.{memories};
@@ -29,7 +31,7 @@ mod told;
 pub const MOST_PACKETS: u32 = 1000;
 
 // Why a call is refused.
-#[derive(Drop)]
+#[derive(Clone, Copy)]
 pub enum Refusal {
     // Memory of the wrong length, a handle that breaks a limit, or an index that leads to no row in use.
     Unfit,
@@ -51,7 +53,7 @@ pub enum Refusal {
 }
 
 // What an accepted packet tells: a login has its number, a rejected one its reason.
-#[derive(Drop)]
+#[derive(Clone, Copy)]
 pub enum Event {
     Login(u64),
     Rejected(u8),
@@ -62,7 +64,7 @@ pub enum Event {
 }
 
 // The texts beside an event, zeros where it has none: a login's session, a directory's texts.
-#[derive(Drop)]
+#[derive(Clone, Copy)]
 pub struct Texts {
     pub session: [u8; 10],
     pub message: message::Texts,
@@ -70,7 +72,7 @@ pub struct Texts {
 
 // The handle. `held` up to `used` are the bytes of a packet that is not whole yet; `refusal` is the number of the refusal that
 // stands, 0 for none.
-#[derive(Drop)]
+#[derive(Clone, Copy)]
 pub struct Reader {
     pub line: Line,
     pub board: Board,
@@ -80,7 +82,7 @@ pub struct Reader {
     pub held: [u8; HELD_SIZE],
 }
 
-#[derive(Drop)]
+#[derive(Clone, Copy)]
 pub enum StepAnswer {
     Event(Event),
     More,
@@ -89,7 +91,7 @@ pub enum StepAnswer {
 }
 
 // The reader is handed back, with the count of bytes taken.
-#[derive(Drop)]
+#[derive(Clone, Copy)]
 pub struct Stepped {
     pub reader: Reader,
     pub taken: usize,
@@ -98,7 +100,7 @@ pub struct Stepped {
 }
 
 // Why a run stopped.
-#[derive(Drop)]
+#[derive(Clone, Copy)]
 pub enum Why {
     Ended,
     Refused(Refusal),
@@ -107,7 +109,7 @@ pub enum Why {
 }
 
 // The reader is handed back, with the bytes taken and the packets finished.
-#[derive(Drop)]
+#[derive(Clone, Copy)]
 pub struct Ran {
     pub reader: Reader,
     pub taken: usize,
@@ -115,20 +117,20 @@ pub struct Ran {
     pub why: Why,
 }
 
-#[derive(Drop)]
+#[derive(Clone, Copy)]
 pub enum StartAnswer {
     Ready,
     Refused(Refusal),
 }
 
-#[derive(Drop)]
+#[derive(Clone, Copy)]
 pub struct Started {
     pub reader: Reader,
     pub answer: StartAnswer,
 }
 
 // An image is accepted, or refused by name; then the reader is fresh.
-#[derive(Drop)]
+#[derive(Clone, Copy)]
 pub struct Restored {
     pub reader: Reader,
     pub verdict: image::Verdict,

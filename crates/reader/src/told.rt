@@ -92,7 +92,7 @@ pub fn tell(number: u32, handle: &[u8], bytes: &[u8], event: &mut [u8])
 }
 
 // An answer by name, and the texts beside it.
-#[derive(Drop)]
+#[derive(Clone, Copy)]
 pub struct Heard {
     pub answer: StepAnswer,
     pub texts: Texts,

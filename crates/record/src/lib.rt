@@ -1,4 +1,6 @@
 // The record of a message in bytes: 112 of them, the same places for all letters, and 0 where a letter has no field.
+#![tactic(auto)]
+
 ghost use Rattle.std.specs.Prelude.{◌≡◌, ◌≤◌, length};
 ghost use Rattle.message.specs.Message.{read_of};
 ghost use Rattle.message.specs.Test.{tested};
@@ -16,14 +18,14 @@ pub const RECORD_SIZE: usize = 112;
 // The answer for bytes that are no record, or break the rules of its fields.
 const NO_RECORD: u32 = 26;
 
-#[derive(Drop)]
+#[derive(Clone, Copy)]
 pub enum Taken {
     Is(Message),
     NoRecord,
 }
 
 // What some bytes hold, with a directory's texts beside it; zeros beside any other.
-#[derive(Drop)]
+#[derive(Clone, Copy)]
 pub struct Held {
     pub taken: Taken,
     pub texts: Texts,

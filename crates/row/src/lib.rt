@@ -1,4 +1,6 @@
 // A row of the table, lent by itself: what is asked of its bytes, and what a message does to them.
+#![tactic(auto)]
+
 ghost use Rattle.std.specs.Prelude.{◌≡◌, ◌≤◌, length};
 ghost use Rattle.row.specs.Fields.{row_size, seen_with, state_takes_quote, takes_quote};
 ghost use Rattle.row.specs.Changes.{changed, purge};
@@ -13,7 +15,7 @@ pub mod wire;
 pub const ROW_SIZE: usize = 124;
 
 // The side or sides that a quote sets, in ten-thousandths of a dollar.
-#[derive(Drop)]
+#[derive(Clone, Copy)]
 pub enum Sides {
     One(Side, LongNumbers),
     // The bid, then the ask.
@@ -21,7 +23,7 @@ pub enum Sides {
 }
 
 // A quote of any of the six letters.
-#[derive(Drop)]
+#[derive(Clone, Copy)]
 pub struct Quote {
     pub stamp: Stamp,
     pub id: u32,

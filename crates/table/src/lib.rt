@@ -1,4 +1,6 @@
 // The table of instruments and the index of its rows, in memory that the caller lends at each call: their start.
+#![tactic(auto)]
+
 ghost use Rattle.std.specs.Prelude.{◌≡◌};
 ghost use Rattle.table.specs.Memory.{is_table, rows_fit, memories};
 ghost use Rattle.table.specs.Index.{is_lent};
@@ -12,7 +14,7 @@ pub const MOST_ROWS: usize = 500;
 pub const TABLE_SIZE: usize = MOST_ROWS * row::ROW_SIZE;
 
 // What is kept beside the rows.
-#[derive(Drop)]
+#[derive(Clone, Copy)]
 pub struct Board {
     // Rows in use.
     pub rows: usize,
@@ -22,7 +24,7 @@ pub struct Board {
     pub live: u64,
 }
 
-#[derive(Drop)]
+#[derive(Clone, Copy)]
 pub enum Refusal {
     // Memory of the wrong length, more rows than it has, or an index that leads to none in use.
     Unfit,
@@ -36,13 +38,13 @@ pub enum Refusal {
     TableFull,
 }
 
-#[derive(Drop)]
+#[derive(Clone, Copy)]
 pub enum Verdict {
     Accepted,
     Refused(Refusal),
 }
 
-#[derive(Drop)]
+#[derive(Clone, Copy)]
 pub struct Applied {
     pub board: Board,
     pub verdict: Verdict,

@@ -16,7 +16,7 @@ use crate::index::Sought;
 use crate::{Refusal, index};
 
 // What came of a message: the rows in use stay, or there is one more; or it is refused.
-#[derive(Drop)]
+#[derive(Clone, Copy)]
 pub enum Placed {
     Kept,
     Added,

@@ -2,7 +2,7 @@
 ghost use Rattle.std.specs.Prelude.{◌<◌};
 
 // What is asked for, and the places of the files' names among the arguments, 0 for none.
-#[derive(Drop)]
+#[derive(Clone, Copy)]
 pub struct Wanted {
     pub wrong: bool,
     pub help: bool,
@@ -14,7 +14,7 @@ pub struct Wanted {
     next: usize,
 }
 
-#[derive(Drop)]
+#[derive(Clone, Copy)]
 enum Choice {
     Help,
     Status,

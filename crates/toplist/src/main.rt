@@ -1,4 +1,6 @@
 // Lists the table of a session; saves it, or restores it first, where the arguments ask for it.
+#![tactic(auto)]
+
 use arguments::Wanted;
 use block::BLOCK_SIZE;
 use files::status::{FAILED, FINE, REFUSED, WRONG};
@@ -48,7 +50,7 @@ fn print_refused(what: &[u8], number: u8) {
 }
 
 // What became of a line of the listing: it was written, there is none, or it could not be, which was said.
-#[derive(Drop)]
+#[derive(Clone, Copy)]
 enum Printed {
     Line,
     Past,
@@ -129,7 +131,7 @@ fn save_to(argument: usize, reader: Reader, table: &[u8], path: &mut [u8]) -> bo
 }
 
 // The reader to begin with, whether there is one, and what to end with if not.
-#[derive(Drop)]
+#[derive(Clone, Copy)]
 struct Begun {
     reader: Reader,
     is_ready: bool,

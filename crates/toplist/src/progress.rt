@@ -2,7 +2,7 @@
 use libc::STDERR_FILENO;
 
 // The second in which it was last shown, and the bytes and the first message's number so far.
-#[derive(Drop)]
+#[derive(Clone, Copy)]
 pub struct Progress {
     is_terminal: bool,
     is_shown: bool,

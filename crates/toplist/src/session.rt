@@ -8,14 +8,14 @@ use crate::progress::Progress;
 use reader::{MOST_PACKETS, Reader};
 
 // A reader, and how far it is in the piece.
-#[derive(Drop)]
+#[derive(Clone, Copy)]
 pub struct Reached {
     pub reader: Reader,
     pub at: usize,
 }
 
 // What one read brought: the reader after it, how many bytes came, and the number of the error that broke the input off, 0 for none.
-#[derive(Drop)]
+#[derive(Clone, Copy)]
 struct Brought {
     reader: Reader,
     count: usize,
@@ -23,7 +23,7 @@ struct Brought {
 }
 
 // The reader, whether any byte came and whether all have, the number of the error that broke the input off, 0 for none, and what was shown of it.
-#[derive(Drop)]
+#[derive(Clone, Copy)]
 pub struct Heard {
     pub reader: Reader,
     pub any: bool,

@@ -3,7 +3,7 @@ ghost use Rattle.std.specs.Prelude.{◌≤◌};
 
 use image::Way;
 
-#[derive(Drop)]
+#[derive(Clone, Copy)]
 pub enum Choice {
     // FILE and NEW stand behind the word.
     Move(Way),
@@ -11,7 +11,7 @@ pub enum Choice {
     Wrong,
 }
 
-#[derive(Drop)]
+#[derive(Clone, Copy)]
 pub struct Wanted {
     pub choice: Choice,
     // Is the status to be written?

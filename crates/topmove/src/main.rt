@@ -1,4 +1,6 @@
 // Moves a saved table to version 3, or back to the version that its rows had before.
+#![tactic(auto)]
+
 use arguments::{Choice, Wanted};
 use block::BLOCK_SIZE;
 use files::status::{FAILED, FINE, REFUSED, WRONG};

@@ -10,7 +10,7 @@ use image::{Saved, Way, moves};
 // Where the rows in use are counted in an image.
 const ROWS_AT: usize = 26;
 
-#[derive(Drop)]
+#[derive(Clone, Copy)]
 pub struct Moved {
     // So many bytes.
     pub size: usize,
@@ -21,7 +21,7 @@ pub struct Moved {
     pub lost: u64,
 }
 
-#[derive(Drop)]
+#[derive(Clone, Copy)]
 pub enum Outcome {
     Done(Moved),
     // The number of the refusal.
