@@ -1,0 +1,6 @@
+-- `block::read_head` meets its contract.
+use Rattle.block.proofs.Blocks.{head-take}
+use Rattle.block.proofs.read_head.Goals as goal
+
+pub returns : goal.returns
+returns c = let s = c.args in head-take s.s.now s.at c.read2.ensures c.read2-2.ensures c.read2-3.ensures c.read8.ensures

@@ -1,0 +1,12 @@
+-- `field::text::only` meets its contract.
+use mathlib.Core.Path.{◌≡◌}
+use Prim.Native.Nat.{◌≤◌, ◌-◌}
+use Rattle.field.specs.Bytes.{part}
+use Rattle.field.specs.Text.{every, within}
+use Rattle.field.proofs.text.only.Given as goal
+
+abbrev pub invariant-loop-k : goal.invariant-loop-k
+invariant-loop-k l = (l.k ≤ l.n) × (l.same ≡ every (within l.byte l.byte) (part l.s l.at l.k))
+
+abbrev pub decreases-loop-k : goal.decreases-loop-k
+decreases-loop-k l = l.n - l.k

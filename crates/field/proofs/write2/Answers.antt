@@ -1,0 +1,7 @@
+-- `field::write2` meets its contract.
+use borrow.Author.Rules.{rules}
+use Rattle.field.proofs.Numbers.{write-joins}
+use Rattle.field.proofs.write2.Goals as goal
+
+pub returns : goal.returns
+returns c = search (write-joins 1 1, rules)

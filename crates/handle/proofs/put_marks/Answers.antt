@@ -1,0 +1,8 @@
+-- `handle::put_marks` meets its contract.
+use Rattle.handle.proofs.Ways.{marks-put}
+use Rattle.handle.proofs.put_marks.Goals as goal
+
+pub returns : goal.returns
+returns c =
+    marks-put c.args.out.now c.args.h c.requires c.flag.ensures c.write1.ensures c.flag-2.ensures c.write1-2.ensures
+    c.flag-3.ensures c.write1-3.ensures c.write1-4.ensures c.write1-5.ensures

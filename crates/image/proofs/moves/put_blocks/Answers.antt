@@ -1,0 +1,16 @@
+-- `image::moves::put_blocks` meets its contract.
+use mathlib.Core.Path.{refl}
+use Prim.Native.Nat.{◌-◌}
+use borrow.Author.Rules.{rules}
+use Rattle.image.proofs.Puts.{blocks-none, blocks-all}
+use Rattle.image.proofs.Writes.{moved-turn}
+use Rattle.image.proofs.moves.put_blocks.Goals as goal
+
+pub loop-k-init : goal.loop-k-init
+loop-k-init c = (search rules, blocks-none _ _ _ _, refl)
+
+pub loop-k-preserved : goal.loop-k-preserved
+loop-k-preserved c = (search rules, search (moved-turn, c) depth 14, search rules)
+
+pub returns : goal.returns
+returns c = search blocks-all

@@ -1,0 +1,17 @@
+-- `image::moves::put_body` meets its contract.
+use Rattle.image.proofs.Puts.{page-there, body-first, body-later}
+use Rattle.image.proofs.Writes.{rows-here, body-rows}
+use borrow.Author.Rules.{rules}
+use Rattle.image.proofs.moves.put_body.Goals as goal
+
+pub put-requires : goal.put-requires
+put-requires c = (search rules, rows-here c.args.image.now c.requires.0 c.args.h c.requires.1)
+
+pub put_page-requires : goal.put_page-requires
+put_page-requires c = let p = c.requires in (search rules, search (body-rows, p), search rules, search (page-there, p))
+
+pub returns-then-k-eq0 : goal.returns-then-k-eq0
+returns-then-k-eq0 c = search body-first
+
+pub returns-else-k-eq0 : goal.returns-else-k-eq0
+returns-else-k-eq0 c = search body-later

@@ -1,0 +1,16 @@
+-- `image::pages::put_blocks` meets its contract.
+use mathlib.Core.Path.{◌≡◌, refl}
+use Prim.Native.Nat.{◌-◌}
+use lib.ListN.{length}
+use Rattle.image.proofs.Puts.{blocks-none, blocks-turn, blocks-all}
+use borrow.Author.Rules.{rules}
+use Rattle.image.proofs.pages.put_blocks.Goals as goal
+
+pub loop-k-init : goal.loop-k-init
+loop-k-init c = (search rules, blocks-none _ _ _ _, refl)
+
+pub loop-k-preserved : goal.loop-k-preserved
+loop-k-preserved c = let l : length c.args.h.session ≡ 10 = search (rules, c) in (search rules, search (blocks-turn, c) depth 14, search rules)
+
+pub returns : goal.returns
+returns c = search blocks-all

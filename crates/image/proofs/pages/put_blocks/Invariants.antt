@@ -1,0 +1,14 @@
+-- `image::pages::put_blocks` meets its contract.
+use mathlib.Core.Path.{◌≡◌}
+use Prim.Native.Nat.{◌≤◌, ◌-◌}
+use lib.ListN.{length}
+use Rattle.field.specs.Bytes.{overlay}
+use Rattle.row.specs.Rules.{newest}
+use Rattle.image.specs.Save.{blocks}
+use Rattle.image.proofs.pages.put_blocks.Given as goal
+
+abbrev pub invariant-loop-k : goal.invariant-loop-k
+invariant-loop-k l = (l.k ≤ l.count) × (l.out ≡ overlay l.initial.out 0 (blocks newest l.h l.table l.k)) × (length l.out ≡ length l.initial.out)
+
+abbrev pub decreases-loop-k : goal.decreases-loop-k
+decreases-loop-k l = l.count - l.k

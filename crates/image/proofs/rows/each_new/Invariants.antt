@@ -1,0 +1,16 @@
+-- `image::rows::each_new` meets its contract.
+use mathlib.Core.Path.{◌≡◌}
+use mathlib.Core.Bool.{true}
+use Prim.Native.Nat.{◌≤◌, ◌-◌}
+use lib.ListN.{length}
+use Rattle.image.specs.Shape.{pages_for, pages, all_below}
+use Rattle.image.specs.Ids.{own_id}
+use Rattle.image.proofs.Walk.{Gathered}
+use Rattle.image.proofs.rows.each_new.Given as goal
+
+abbrev pub invariant-loop-k : goal.invariant-loop-k
+invariant-loop-k l =
+    (l.k ≤ l.rows) × (length l.rising ≡ length l.initial.rising) × Gathered l.k (pages l.s l.base l.stride (pages_for l.rows)) l.rising × (all_below (own_id (pages l.s l.base l.stride (pages_for l.rows))) l.k ≡ true)
+
+abbrev pub decreases-loop-k : goal.decreases-loop-k
+decreases-loop-k l = l.rows - l.k

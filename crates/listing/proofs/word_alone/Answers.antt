@@ -1,0 +1,6 @@
+-- `listing::word_alone` meets its contract.
+use Rattle.listing.proofs.Puts.{word_line}
+use Rattle.listing.proofs.word_alone.Goals as goal
+
+pub returns : goal.returns
+returns c = record { out_after = (word_line _ _ c.requires.0 c.requires.1 c.copy.ensures c.write1.ensures).0; value = (word_line _ _ c.requires.0 c.requires.1 c.copy.ensures c.write1.ensures).1 }

@@ -1,0 +1,28 @@
+-- `message::test::quote` meets its contract.
+use borrow.Author.Rules.{rules}
+use Rattle.message.proofs.Tested.{room-head, room-time, quote-sized, quote-long, quote-time, quote-condition, quote-prices, quote-kept}
+use Rattle.message.proofs.test.quote.Goals as goal
+
+pub returns-then-bytes-size : goal.returns-then-bytes-size
+returns-then-bytes-size c = search (quote-long, rules)
+
+pub time_keeps-requires : goal.time_keeps-requires
+time_keeps-requires c = search (room-time, rules)
+
+pub returns-then-not-time_keeps : goal.returns-then-not-time_keeps
+returns-then-not-time_keeps c = search (quote-time, rules)
+
+pub read1-requires : goal.read1-requires
+read1-requires c = search (room-head, rules)
+
+pub returns-then-not-is_condition : goal.returns-then-not-is_condition
+returns-then-not-is_condition c = search (quote-condition, rules)
+
+pub prices_keep-requires : goal.prices_keep-requires
+prices_keep-requires c = search (quote-sized, rules)
+
+pub returns-then-not-prices_keep : goal.returns-then-not-prices_keep
+returns-then-not-prices_keep c = search (quote-prices, rules)
+
+pub returns : goal.returns
+returns c = search (quote-kept, rules)

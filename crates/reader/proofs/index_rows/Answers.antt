@@ -1,0 +1,20 @@
+-- `reader::index_rows` meets its contract.
+use mathlib.Core.Path.{sym, ap, ◌∙◌}
+use native.Mathlib.Omega.{arith}
+use Rattle.image.specs.declared.Verdict.{Verdict}
+use Rattle.reader.specs.Saving.{index_after}
+use Rattle.reader.proofs.index_rows.Goals as goal
+
+pub build-requires : goal.build-requires
+build-requires c =
+    let f = c.requires c.in-Accepted.is in
+    (omega (arith, f.0.1), omega (arith, f.0.1, f.1), omega (arith, f.0.0, f.0.1))
+
+pub returns-in-Accepted : goal.returns-in-Accepted
+returns-in-Accepted c =
+    c.build.ensures
+    ∙ ap (λ (v : Verdict). index_after v c.args.rows c.args.table.now c.args.index.now) (sym c.in-Accepted.is)
+
+pub returns-in-Refused : goal.returns-in-Refused
+returns-in-Refused c =
+    ap (λ (v : Verdict). index_after v c.args.rows c.args.table.now c.args.index.now) (sym c.in-Refused.is)

@@ -1,0 +1,22 @@
+-- `reader::limits::holds_unfinished` meets its contract.
+use native.Mathlib.Omega.{arith}
+use lib.Seq.{length-take-le}
+use mathlib.Core.Path.{sym}
+use Rattle.reader.proofs.Kept.{held-over, held-short, held-bad, held_whole}
+use Rattle.reader.proofs.limits.holds_unfinished.Goals as goal
+
+pub returns-then-used-gt-HELD_SIZE : goal.returns-then-used-gt-HELD_SIZE
+returns-then-used-gt-HELD_SIZE c = search held-over
+
+pub slice_bounds-front-end : goal.slice_bounds-front-end
+slice_bounds-front-end c =
+    sym (length-take-le _ _ (omega (arith, c.requires)))
+
+pub returns-in-Short : goal.returns-in-Short
+returns-in-Short c = search held-short
+
+pub returns-in-BadLength : goal.returns-in-BadLength
+returns-in-BadLength c = search held-bad
+
+pub returns-in-Whole : goal.returns-in-Whole
+returns-in-Whole c = search held_whole

@@ -1,0 +1,15 @@
+-- `record::back::short` meets its contract.
+use mathlib.Core.Path.{refl}
+use native.Mathlib.Omega.{arith}
+use Rattle.field.proofs.Numbers.{lent-bytes}
+use Rattle.message.specs.Letters.{short_numbers_rows}
+use Rattle.record.specs.Places.{short_places}
+use Rattle.record.proofs.Moved.{laid-moved}
+use Rattle.record.proofs.back.short.Goals as goal
+
+pub returns : goal.returns
+returns c =
+    laid-moved (short_places c.args.at) (short_numbers_rows c.args.to) c.args.kept.now c.args.out.now _
+    (omega arith, refl, refl, refl, (omega arith, refl, refl, refl, (omega arith, refl, refl, refl, (omega arith, refl, refl, refl, (omega arith, refl, refl, refl, tt)))))
+    (lent-bytes c.args.kept.now c.type_inv.kept)
+    (_, c.copy2.ensures, (_, c.copy2-2.ensures, (_, c.copy2-3.ensures, (_, c.copy2-4.ensures, (_, c.copy2-5.ensures, refl)))))

@@ -1,0 +1,13 @@
+-- `record::back::stamp` meets its contract.
+use mathlib.Core.Path.{refl}
+use mathlib.Core.List.{◌∷◌}
+use native.Mathlib.Omega.{arith}
+use Rattle.message.specs.Letters.{stamp_rows}
+use Rattle.record.specs.Places.{record_size, letter_place, stamp_places}
+use Rattle.record.proofs.Moved.{paired, moved}
+use Rattle.record.proofs.back.stamp.Goals as goal
+
+pub returns : goal.returns
+unfolding paired
+returns c =
+    moved record_size (letter_place ∷ stamp_places) (letter_place ∷ stamp_rows) c.args.kept.now c.args.out.now refl (omega arith) c.type_inv.kept (_, c.copy1.ensures, (_, c.copy2.ensures, (_, c.copy8.ensures, refl)))

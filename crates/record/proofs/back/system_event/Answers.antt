@@ -1,0 +1,15 @@
+-- `record::back::system_event` meets its contract.
+use mathlib.Core.Path.{refl}
+use mathlib.Core.List.{◌∷◌}
+use native.Mathlib.Omega.{arith}
+use lib.ListN.{drop}
+use Rattle.message.specs.Letters.{stamp_rows, system_event_rows}
+use Rattle.record.specs.Places.{record_size, letter_place, stamp_places, system_event_places}
+use Rattle.record.proofs.Moved.{paired, moved, after}
+use Rattle.record.proofs.back.system_event.Goals as goal
+
+pub returns : goal.returns
+unfolding paired
+returns c =
+    after (letter_place ∷ stamp_places) (letter_place ∷ stamp_rows) (drop 2 system_event_places) (drop 2 system_event_rows) c.args.kept.now c.args.out.now refl c.stamp.ensures
+    (moved record_size (drop 2 system_event_places) (drop 2 system_event_rows) c.args.kept.now _ refl (omega arith) c.type_inv.kept (_, c.copy1.ensures, refl))

@@ -1,0 +1,13 @@
+-- `record::back::terms` meets its contract.
+use mathlib.Core.Path.{refl}
+use native.Mathlib.Omega.{arith}
+use lib.ListN.{take}
+use Rattle.message.specs.Letters.{instrument_rows}
+use Rattle.record.specs.Places.{record_size, instrument_places}
+use Rattle.record.proofs.Moved.{paired, moved}
+use Rattle.record.proofs.back.terms.Goals as goal
+
+pub returns : goal.returns
+unfolding paired
+returns c =
+    moved record_size (take 5 instrument_places) (take 5 instrument_rows) c.args.kept.now c.args.out.now refl (omega arith) c.type_inv.kept (_, c.copy4.ensures, (_, c.copy8.ensures, (_, c.copy1.ensures, (_, c.copy1-2.ensures, (_, c.copy1-3.ensures, refl)))))

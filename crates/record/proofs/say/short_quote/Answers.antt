@@ -1,0 +1,18 @@
+-- `record::say::short_quote` meets its contract.
+use mathlib.Core.Path.{◌∙◌}
+use Rattle.message.specs.Layout.{values}
+use Rattle.message.specs.declared.Message.TheVariants as message
+use Rattle.record.specs.Record.{said_by}
+use Rattle.record.proofs.Ways.{said-as}
+use Rattle.record.proofs.say.short_quote.Goals as goal
+
+pub returns : goal.returns
+unfolding values said_by
+returns c =
+    c.bare.ensures ∙ said-as message.ShortQuote (λ i. record {
+      stamp = c.stamp.ensures i;
+      id = c.read4.ensures i;
+      condition = c.read1.ensures i;
+      bid = c.short.ensures i;
+      ask = c.short-2.ensures i;
+    })

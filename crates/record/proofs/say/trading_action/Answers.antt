@@ -1,0 +1,16 @@
+-- `record::say::trading_action` meets its contract.
+use mathlib.Core.Path.{◌∙◌}
+use Rattle.message.specs.Layout.{values}
+use Rattle.message.specs.declared.Message.TheVariants as message
+use Rattle.record.specs.Record.{said_by}
+use Rattle.record.proofs.Ways.{said-as}
+use Rattle.record.proofs.say.trading_action.Goals as goal
+
+pub returns : goal.returns
+unfolding values said_by
+returns c =
+    c.bare.ensures ∙ said-as message.TradingAction (λ i. record {
+      stamp = c.stamp.ensures i;
+      id = c.read4.ensures i;
+      state = c.read1.ensures i;
+    })

@@ -1,0 +1,8 @@
+-- `record::wire::terms` meets its contract.
+use borrow.Author.Rules.{rules}
+use Rattle.record.proofs.Moved.{terms-moved}
+use Rattle.record.proofs.wire.terms.Goals as goal
+
+pub returns : goal.returns
+returns c =
+    terms-moved c.args.out.now c.args.bytes.now c.type_inv.bytes c.requires.0 (search rules) c.copy4.ensures c.copy8.ensures c.copy2.ensures c.copy1.ensures
