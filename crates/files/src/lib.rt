@@ -4,126 +4,199 @@
 ghost use Rattle.std.specs.Prelude.{◌≤◌, length};
 ghost use Rattle.files.specs.Loading.{LoadedIn};
 
-use libc::STDIN_FILENO;
+use std::fs::File;
+use std::io;
+use std::io::{Read, Write};
+use std::random::RandomSource;
 
+pub mod command_line;
 pub mod complaints;
+pub mod input;
 mod links;
+mod names;
 pub mod status;
+
+use crate::input::Input;
 
 // No name that is written is longer, so that there is room for a dot and six letters behind it.
 const MOST_NAME: usize = 4000;
 
-#[derive(Clone, Copy)]
+// So many letters stand behind the name of a new file, and so often they are drawn where there is a file of that name already.
+const LETTERS: usize = 6;
+
+const MOST_DRAWS: u32 = 238_328;
+
+#[derive(Drop)]
 pub enum Loaded {
     Bytes(usize),
     Failed,
 }
 
+// Reads on until the memory is full, the input is at its end or breaks off; how many bytes came?
+fn read_full(input: &mut Input, space: &mut [u8]) -> usize
+    ensures { result ≤ length space.new }
+{
+    let mut done = 0;
+    while done < space.len() {
+        match input.read(&mut space[done..]) {
+            Ok(n) if n > 0 => done += n,
+            _ => break,
+        }
+    }
+    done
+}
+
 // The file's bytes at the start of `space`, as many as it has room for.
-fn read_open(program: &[u8], fd: i32, path: &[u8], space: &mut [u8]) -> Loaded
+fn read_open(
+    rt: &HostRuntime,
+    program: &[u8],
+    input: &mut Input,
+    path: &[u8],
+    space: &mut [u8],
+) -> Loaded
     ensures { LoadedIn result space.new }
 {
-    let got = libc::read(fd, space);
-    if got < 0 {
-        complaints::system(program, path);
-        return Loaded::Failed;
-    }
-    let n = io::count(got, space);
+    let n = match input.read(space) {
+        Ok(n) => n,
+        Err(e) => {
+            complaints::system(rt, program, path, e);
+            return Loaded::Failed;
+        }
+    };
     if n == 0 {
         return Loaded::Bytes(0);
     }
-    let more = io::read_full(fd, &mut space[n..]);
+    let more = read_full(input, &mut space[n..]);
     Loaded::Bytes(n + more)
 }
 
 // The same by the file's name.
-pub fn load(program: &[u8], path: &[u8], space: &mut [u8]) -> Loaded
+pub fn load(rt: &HostRuntime, program: &[u8], path: &[u8], space: &mut [u8]) -> Loaded
     ensures { LoadedIn result space.new }
 {
-    let fd = open(program, path);
-    if fd < 0 {
+    let Some(mut input) = open(rt, program, path) else {
         return Loaded::Failed;
-    }
-    let loaded = read_open(program, fd, path, space);
-    libc::close(fd);
+    };
+    let loaded = read_open(rt, program, &mut input, path, space);
+    close(input);
     loaded
 }
 
-// A descriptor to read the file by, or -1.
-pub fn open(program: &[u8], path: &[u8]) -> i32 {
-    let fd = os::open_read(path);
-    if fd < 0 {
-        complaints::system(program, path);
+// A file to be read, where it can be opened.
+pub fn open(rt: &HostRuntime, program: &[u8], path: &[u8]) -> Option<Input> {
+    match names::open(rt, path) {
+        Ok(file) => Some(Input::Opened(file)),
+        Err(e) => {
+            complaints::system(rt, program, path, e);
+            None
+        }
     }
-    fd
 }
 
 // Standard input stays open.
-pub fn close(fd: i32) {
-    if fd != STDIN_FILENO {
-        libc::close(fd);
-    }
+pub fn close(_input: Input) {}
+
+// Written, and on its device. It is closed then.
+fn write_open(mut file: File, bytes: &[u8]) -> io::Result<()> {
+    file.write_all(bytes)?;
+    file.sync_all()
 }
 
-// Written, and on its device.
-fn write_open(fd: i32, bytes: &[u8]) -> bool {
-    if !io::write_all(fd, bytes) {
-        return false;
+// Letters that the system draws.
+fn draw(rt: &HostRuntime, letters: &mut [u8]) -> io::Result<()> {
+    rt.fill_bytes(letters)?;
+    for letter in letters.iter_mut() {
+        *letter = b'a' + *letter % 26;
     }
-    libc::fsync(fd) == 0
+    Ok(())
 }
 
-// Fills a new file beside the target, of that name, and puts it in the target's place.
-fn replace(program: &[u8], path: &[u8], target: &[u8], name: &mut [u8], bytes: &[u8]) -> bool {
-    let fd = os::create_temp(name);
-    if fd < 0 {
-        complaints::system(program, path);
-        return false;
-    }
-    let is_written = write_open(fd, bytes);
-    if !is_written {
-        complaints::system(program, path);
-    }
-    libc::close(fd);
-    if is_written {
-        if os::rename(name, target) == 0 {
-            return true;
+// A new file, of that name with other letters at its end.
+fn create_drawn(rt: &HostRuntime, name: &mut [u8]) -> io::Result<File> {
+    let letters = name.len().saturating_sub(LETTERS);
+    draw(rt, &mut name[letters..])?;
+    names::create_new(rt, name)
+}
+
+// The same, with letters that no file has there.
+fn create(rt: &HostRuntime, name: &mut [u8]) -> io::Result<File> {
+    for _ in 1..MOST_DRAWS {
+        match create_drawn(rt, name) {
+            Err(e) if e.kind() == io::ErrorKind::AlreadyExists => {}
+            created => return created,
         }
-        complaints::system(program, path);
     }
-    os::unlink(name);
-    false
+    create_drawn(rt, name)
+}
+
+// A file filled, and put in the target's place by the name that it has.
+fn put_in_place(
+    rt: &HostRuntime,
+    target: &[u8],
+    name: &[u8],
+    file: File,
+    bytes: &[u8],
+) -> io::Result<()> {
+    write_open(file, bytes)?;
+    names::rename(rt, name, target)
+}
+
+// Fills a new file beside the target, of that name, and puts it in the target's place; or there is no new file.
+fn replace(rt: &HostRuntime, target: &[u8], name: &mut [u8], bytes: &[u8]) -> io::Result<()> {
+    let file = create(rt, name)?;
+    let put = put_in_place(rt, target, name, file, bytes);
+    if put.is_err() {
+        let _ = names::remove(rt, name);
+    }
+    put
 }
 
 // The name of the new file: the target's with a dot and six letters more.
-fn store_at(program: &[u8], path: &[u8], target: &[u8], bytes: &[u8]) -> bool
+fn store_at(rt: &HostRuntime, target: &[u8], bytes: &[u8]) -> io::Result<()>
     requires { length target.now ≤ 4000 }
 {
-    let mut space = io::buffer();
+    let mut space = [0u8; 4096];
     let n = target.len();
-    field::copy(target, 0, n, &mut space, 0);
-    field::copy(b".XXXXXX", 0, 7, &mut space, n);
-    let end = n + 7;
-    replace(program, path, target, &mut space[..end], bytes)
+    space[..n].copy_from_slice(target);
+    let end = n + 1 + LETTERS;
+    space[n] = b'.';
+    replace(rt, target, &mut space[..end], bytes)
+}
+
+// The same as `store`, where what the system says of an error is left to be complained of.
+fn try_store(rt: &HostRuntime, program: &[u8], path: &[u8], bytes: &[u8]) -> io::Result<bool> {
+    let mut target = [0u8; 4096];
+    let n = path.len();
+    if n > MOST_NAME {
+        complaints::words(rt, program, b"the name of the file", b" is too long\n");
+        return Ok(false);
+    }
+    target[..n].copy_from_slice(path);
+    let size = links::followed(rt, &mut target, n)?;
+    if size == 0 {
+        complaints::words(rt, program, path, b": leads to no file\n");
+        return Ok(false);
+    }
+    if size > MOST_NAME {
+        complaints::words(
+            rt,
+            program,
+            path,
+            b": leads to a file whose name is too long\n",
+        );
+        return Ok(false);
+    }
+    store_at(rt, &target[..size], bytes)?;
+    Ok(true)
 }
 
 // Replaces the file, or the one that a link leads to; was it?
-pub fn store(program: &[u8], path: &[u8], bytes: &[u8]) -> bool {
-    let mut target = io::buffer();
-    let n = path.len();
-    if n > MOST_NAME {
-        complaints::words(program, b"the name of the file", b" is too long\n");
-        return false;
+pub fn store(rt: &HostRuntime, program: &[u8], path: &[u8], bytes: &[u8]) -> bool {
+    match try_store(rt, program, path, bytes) {
+        Ok(is_stored) => is_stored,
+        Err(e) => {
+            complaints::system(rt, program, path, e);
+            false
+        }
     }
-    field::copy(path, 0, n, &mut target, 0);
-    let size = links::followed(&mut target, n);
-    if size == 0 {
-        complaints::words(program, path, b": leads to no file\n");
-        return false;
-    }
-    if size > MOST_NAME {
-        complaints::words(program, path, b": leads to a file whose name is too long\n");
-        return false;
-    }
-    store_at(program, path, &target[..size], bytes)
 }

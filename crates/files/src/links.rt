@@ -1,23 +1,30 @@
 // The file that a name leads to: a chain of symbolic links is followed to its end, so that a file is replaced and no link is.
-ghost use Rattle.std.specs.Prelude.{◌≤◌, length};
+ghost use Rattle.std.specs.Prelude.{◌≤◌, IfOk, length};
 
-use libc::PATH_MAX;
+use crate::names;
+use std::io;
 
 // No chain that the system follows is longer.
 const MOST_LINKS: usize = 40;
 
-// Where a link leads: how many bytes its text has, 0 where the name is no link.
-fn link_text(path: &[u8], n: usize, text: &mut [u8]) -> usize
-    requires { n ≤ length path.now }
-    ensures { result ≤ length text.new }
+// The front of one text at the front of another, as much as has room; how much is it?
+fn copy_front(from: &[u8], to: &mut [u8]) -> usize
+    ensures { result ≤ length to.new }
 {
-    let mut name = io::buffer();
-    if n >= PATH_MAX {
-        return 0;
+    let n = from.len().min(to.len());
+    to[..n].copy_from_slice(&from[..n]);
+    n
+}
+
+// Where a link leads: how many bytes its text has, 0 where the name is no link.
+fn link_text(rt: &HostRuntime, path: &[u8], n: usize, text: &mut [u8]) -> io::Result<usize>
+    requires { n ≤ length path.now }
+    ensures { IfOk result (λ m. m ≤ length text.new) }
+{
+    match names::read_link(rt, &path[..n])? {
+        Some(led) => Ok(copy_front(led.as_str().as_bytes(), text)),
+        None => Ok(0),
     }
-    field::copy(path, 0, n, &mut name, 0);
-    name[PATH_MAX - 1] = 0;
-    io::count(libc::readlink(&name, text), text)
 }
 
 // How many bytes of a name stand before and with its last slash, 0 where it has none.
@@ -55,25 +62,23 @@ fn follow(path: &mut [u8], n: usize, text: &[u8], size: usize) -> usize
     if path.len() - at < size {
         return 0;
     }
-    field::copy(text, 0, size, path, at);
+    path[at..at + size].copy_from_slice(&text[..size]);
     at + size
 }
 
 // Puts the file that the first n bytes of `path` lead to at its front, and answers its length; 0 where it has no room or the chain has no end.
-pub fn followed(path: &mut [u8], n: usize) -> usize
+pub fn followed(rt: &HostRuntime, path: &mut [u8], n: usize) -> io::Result<usize>
     requires { n ≤ length path.old }
-    ensures { result ≤ length path.new }
+    ensures { IfOk result (λ m. m ≤ length path.new) }
 {
-    let mut text = io::buffer();
+    let mut text = [0u8; 4096];
     let mut size = n;
-    let mut turns = MOST_LINKS;
-    while turns > 0 {
-        let found = link_text(path, size, &mut text);
+    for _ in 0..MOST_LINKS {
+        let found = link_text(rt, path, size, &mut text)?;
         if found == 0 {
-            return size;
+            return Ok(size);
         }
         size = follow(path, size, &text, found);
-        turns -= 1;
     }
-    0
+    Ok(0)
 }

@@ -1,4 +1,7 @@
-// What a program would end with. A program of Rattle ends with 0, so it writes the digit to a descriptor, and `./run` ends with it.
+// What a program would end with, as a digit that it writes to a descriptor, where `./run` reads it.
+use std::fs::{File, OpenOptions};
+use std::io;
+use std::io::Write;
 
 // All went well.
 pub const FINE: u8 = 0;
@@ -12,8 +15,28 @@ pub const WRONG: u8 = 2;
 // Something was refused.
 pub const REFUSED: u8 = 3;
 
-const STATUS_FILENO: i32 = 3;
+// The library opens files by their names alone, and this is the name that the system has for descriptor 3.
+const STATUS_FILE: &str = "/proc/self/fd/3";
 
-pub fn write(status: u8) {
-    io::print_decimal(STATUS_FILENO, status as u64);
+// To be written behind what is there already. It is opened to be read too, where it may be, since a named pipe that nobody reads any
+// more would else make the program wait.
+fn open(rt: &HostRuntime) -> io::Result<File> {
+    match OpenOptions::new()
+        .read(true)
+        .append(true)
+        .open(rt, STATUS_FILE)
+    {
+        Ok(file) => Ok(file),
+        Err(_) => OpenOptions::new().append(true).open(rt, STATUS_FILE),
+    }
+}
+
+fn append(rt: &HostRuntime, status: u8) -> io::Result<()> {
+    let mut file = open(rt)?;
+    write!(file, "{status}")
+}
+
+// Where nothing takes the digit, nothing is written.
+pub fn write(rt: &HostRuntime, status: u8) {
+    let _ = append(rt, status);
 }

@@ -1,6 +1,9 @@
 // The program's arguments.
 ghost use Rattle.std.specs.Prelude.{◌<◌};
 
+use files::command_line;
+use std::rt::Env;
+
 // What is asked for, and the places of the files' names among the arguments, 0 for none.
 #[derive(Clone, Copy)]
 pub struct Wanted {
@@ -25,10 +28,9 @@ enum Choice {
 }
 
 // An argument that begins with a dash is an option, and any other a file.
-fn option_at(i: usize) -> Choice {
+fn option_at(rt: &HostRuntime, i: usize) -> Choice {
     let mut text = [0u8; 16];
-    let n = os::arg(i, &mut text);
-    let is_whole = os::errno() == 0;
+    let filled = rt.arg(i, &mut text);
     if text[0] != b'-' {
         return if text[0] == 0 {
             Choice::Other
@@ -36,10 +38,10 @@ fn option_at(i: usize) -> Choice {
             Choice::Session
         };
     }
-    if !is_whole {
-        return Choice::Other;
+    match filled {
+        Ok(n) => named(&text, n),
+        Err(_) => Choice::Other,
     }
-    named(&text, n)
 }
 
 fn named(text: &[u8; 16], n: usize) -> Choice {
@@ -117,12 +119,12 @@ fn asked(w: Wanted, help: bool, status: bool, next: usize) -> Wanted {
 }
 
 // Each option stands once, and its file follows it.
-fn with(w: Wanted, count: usize) -> Wanted
+fn with(rt: &HostRuntime, w: Wanted, count: usize) -> Wanted
     requires { w.next < count }
 {
     let at = w.next;
     let file = at + 1;
-    match option_at(at) {
+    match option_at(rt, at) {
         Choice::Help => asked(w, true, w.status, file),
         Choice::Status => asked(w, w.help, true, file),
         Choice::From => {
@@ -153,19 +155,17 @@ fn with(w: Wanted, count: usize) -> Wanted
     }
 }
 
-pub fn read() -> Wanted {
-    let count = os::arg_count();
+pub fn read(rt: &HostRuntime) -> Wanted {
+    let count = command_line::count(rt);
     let mut w = nothing();
-    let mut turns = count;
-    while turns > 0 {
+    for _ in 0..count {
         if w.next >= count {
             break;
         }
         if w.wrong {
             break;
         }
-        w = with(w, count);
-        turns -= 1;
+        w = with(rt, w, count);
     }
     w
 }

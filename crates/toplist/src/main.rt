@@ -3,13 +3,15 @@
 
 use arguments::Wanted;
 use block::BLOCK_SIZE;
+use files::input::Input;
 use files::status::{FAILED, FINE, REFUSED, WRONG};
-use files::{Loaded, complaints, status};
+use files::{Loaded, command_line, complaints, status};
 use image::{MOST_BLOCKS, Saved, Verdict};
-use libc::{STDERR_FILENO, STDIN_FILENO, STDOUT_FILENO};
 use listing::{Ending, Shown};
 use reader::Reader;
 use session::Heard;
+use std::io;
+use std::io::Print;
 use table::index::INDEX_SIZE;
 use table::{MOST_ROWS, TABLE_SIZE};
 
@@ -25,28 +27,28 @@ const MOST_IMAGE: usize = MOST_BLOCKS * BLOCK_SIZE;
 // Room for a block more, so that a longer file is seen to be too long.
 const LONGER_IMAGE: usize = MOST_IMAGE + BLOCK_SIZE;
 
+// No name of a file is longer.
+const MOST_PATH: usize = 4096;
+
 const PROGRAM: [u8; 7] = *b"toplist";
 
-fn print_help() {
-    io::write_all(
-        STDOUT_FILENO,
+fn print_help(rt: &HostRuntime) {
+    let _ = rt.write_all(
         b"usage: toplist [--from FILE] [--save FILE] [--status] [SESSION]\n\nLists the table of a session, which is read from the file SESSION, or from standard input.\n\n  --from FILE  restore the table from FILE first; the session then begins with the login that it waits for\n  --save FILE  save the table to FILE at the end, whole or not at all\n  --status     write a digit to descriptor 3 at the end: 0 for ok and end, 1 where a file could not be read, saved\n               or written, 2 for wrong arguments, 3 where something was refused\n  --help       print this\n",
     );
 }
 
-fn print_usage() {
-    io::write_all(
-        STDERR_FILENO,
+fn print_usage(rt: &HostRuntime) {
+    let _ = Print::write_all(
+        &rt.stderr(),
         b"usage: toplist [--from FILE] [--save FILE] [--status] [SESSION] (toplist --help says more)\n",
     );
 }
 
 // Standard output gets the refusal, and standard error what was refused.
-fn print_refused(what: &[u8], number: u8) {
-    io::write_all(STDOUT_FILENO, b"refused ");
-    io::print_decimal(STDOUT_FILENO, number as u64);
-    io::write_all(STDOUT_FILENO, b"\n");
-    complaints::refusal(&PROGRAM, what, b": no saved table: refused ", number);
+fn print_refused(rt: &HostRuntime, what: &[u8], number: u8) {
+    let _ = println!(rt; "refused {number}");
+    complaints::refusal(rt, &PROGRAM, what, b": no saved table: refused ", number);
 }
 
 // What became of a line of the listing: it was written, there is none, or it could not be, which was said.
@@ -57,25 +59,28 @@ enum Printed {
     Failed,
 }
 
-fn print_text(text: &[u8]) -> Printed {
-    if io::write_all(STDOUT_FILENO, text) {
-        return Printed::Line;
+fn print_text(rt: &HostRuntime, text: &[u8]) -> Printed {
+    match rt.write_all(text) {
+        Ok(()) => Printed::Line,
+        Err(e) => {
+            complaints::output(rt, &PROGRAM, e);
+            Printed::Failed
+        }
     }
-    complaints::output(&PROGRAM);
-    Printed::Failed
 }
 
-fn print_line(k: usize, reader: Reader, table: &[u8], ending: Ending) -> Printed {
+fn print_line(rt: &HostRuntime, k: usize, reader: Reader, table: &[u8], ending: Ending) -> Printed {
     let line = reader.line;
     let board = reader.board;
     let shown = listing::line(k, line.next, board.rows, table, ending);
     let text = shown.text;
     let what = shown.shown;
     match what {
-        Shown::Line(n) => print_text(&text[..n]),
+        Shown::Line(n) => print_text(rt, &text[..n]),
         Shown::Past => Printed::Past,
         Shown::Unfit => {
             complaints::refusal(
+                rt,
                 &PROGRAM,
                 b"the table",
                 b": not listed: refused ",
@@ -87,31 +92,30 @@ fn print_line(k: usize, reader: Reader, table: &[u8], ending: Ending) -> Printed
 }
 
 // Line by line, as far as there are any; were all of them written?
-fn print_listing(reader: Reader, table: &[u8], ending: Ending) -> bool {
-    let mut k = 0;
-    while k < MOST_LINES {
-        match print_line(k, reader, table, ending) {
+fn print_listing(rt: &HostRuntime, reader: Reader, table: &[u8], ending: Ending) -> bool {
+    for k in 0..MOST_LINES {
+        match print_line(rt, k, reader, table, ending) {
             Printed::Line => {}
             Printed::Past => return true,
             Printed::Failed => return false,
         }
-        k += 1;
     }
     true
 }
 
 // Is the table saved?
-fn save(reader: Reader, table: &[u8], path: &[u8]) -> bool {
+fn save(rt: &HostRuntime, reader: Reader, table: &[u8], path: &[u8]) -> bool {
     let mut image = [0u8; MOST_IMAGE];
     match reader.save(table, &mut image) {
         Saved::Whole(n) => {
             if n > MOST_IMAGE {
                 return false;
             }
-            files::store(&PROGRAM, path, &image[..n])
+            files::store(rt, &PROGRAM, path, &image[..n])
         }
         Saved::Unsaved(r) => {
             complaints::refusal(
+                rt,
                 &PROGRAM,
                 path,
                 b": not saved: refused ",
@@ -122,12 +126,18 @@ fn save(reader: Reader, table: &[u8], path: &[u8]) -> bool {
     }
 }
 
-fn save_to(argument: usize, reader: Reader, table: &[u8], path: &mut [u8]) -> bool {
+fn save_to(
+    rt: &HostRuntime,
+    argument: usize,
+    reader: Reader,
+    table: &[u8],
+    path: &mut [u8],
+) -> bool {
     if argument == 0 {
         return true;
     }
-    let n = os::arg(argument, path);
-    save(reader, table, &path[..n])
+    let n = command_line::argument(rt, argument, path);
+    save(rt, reader, table, &path[..n])
 }
 
 // The reader to begin with, whether there is one, and what to end with if not.
@@ -154,14 +164,20 @@ fn ready(reader: Reader) -> Begun {
     }
 }
 
-fn restored(path: &[u8], saved: &[u8], table: &mut [u8], index: &mut [u8]) -> Begun {
+fn restored(
+    rt: &HostRuntime,
+    path: &[u8],
+    saved: &[u8],
+    table: &mut [u8],
+    index: &mut [u8],
+) -> Begun {
     let back = Reader::restore(saved, table, index);
     let reader = back.reader;
     let verdict = back.verdict;
     match verdict {
         Verdict::Accepted => ready(reader),
         Verdict::Refused(r) => {
-            print_refused(path, image::refusal_number(r));
+            print_refused(rt, path, image::refusal_number(r));
             none(reader, REFUSED)
         }
     }
@@ -174,59 +190,66 @@ fn started(table: &mut [u8], index: &mut [u8]) -> Begun {
 
 // From a saved table; the fresh reader is handed back where the file could not be read.
 fn resume(
+    rt: &HostRuntime,
     from: usize,
     fresh: Reader,
     path: &mut [u8],
     table: &mut [u8],
     index: &mut [u8],
 ) -> Begun {
-    let n = os::arg(from, path);
+    let n = command_line::argument(rt, from, path);
     let mut saved = [0u8; LONGER_IMAGE];
-    match files::load(&PROGRAM, &path[..n], &mut saved) {
-        Loaded::Bytes(size) => restored(&path[..n], &saved[..size], table, index),
+    match files::load(rt, &PROGRAM, &path[..n], &mut saved) {
+        Loaded::Bytes(size) => restored(rt, &path[..n], &saved[..size], table, index),
         Loaded::Failed => none(fresh, FAILED),
     }
 }
 
-fn begin(from: usize, path: &mut [u8], table: &mut [u8], index: &mut [u8]) -> Begun {
+fn begin(
+    rt: &HostRuntime,
+    from: usize,
+    path: &mut [u8],
+    table: &mut [u8],
+    index: &mut [u8],
+) -> Begun {
     let fresh = started(table, index);
     if from == 0 {
         return fresh;
     }
-    resume(from, fresh.reader, path, table, index)
+    resume(rt, from, fresh.reader, path, table, index)
 }
 
-// The descriptor of the session, or -1.
-fn open_session(argument: usize, path: &mut [u8]) -> i32 {
+// The session, where it can be opened.
+fn open_session(rt: &HostRuntime, argument: usize, path: &mut [u8]) -> Option<Input> {
     if argument == 0 {
-        return STDIN_FILENO;
+        return Some(Input::Standard(rt.stdin()));
     }
-    let n = os::arg(argument, path);
-    files::open(&PROGRAM, &path[..n])
+    let n = command_line::argument(rt, argument, path);
+    files::open(rt, &PROGRAM, &path[..n])
 }
 
 // What came of a session that could not be read to its end is saved; where nothing came, a file that is there stays.
-fn salvage(argument: usize, heard: Heard, table: &[u8], path: &mut [u8]) {
+fn salvage(rt: &HostRuntime, argument: usize, heard: Heard, table: &[u8], path: &mut [u8]) {
     if heard.any {
-        save_to(argument, heard.reader, table, path);
+        save_to(rt, argument, heard.reader, table, path);
     }
 }
 
 // Why the session could not be read to its end.
-fn complain(argument: usize, error: i32, path: &mut [u8]) {
+fn complain(rt: &HostRuntime, argument: usize, error: io::Error, path: &mut [u8]) {
     if argument == 0 {
-        complaints::input(&PROGRAM, b"standard input", error);
+        complaints::input(rt, &PROGRAM, b"standard input", error);
         return;
     }
-    let n = os::arg(argument, path);
-    complaints::input(&PROGRAM, &path[..n], error);
+    let n = command_line::argument(rt, argument, path);
+    complaints::input(rt, &PROGRAM, &path[..n], error);
 }
 
 // Saved first, and then listed.
-fn finish(wanted: Wanted, reader: Reader, table: &[u8], path: &mut [u8]) -> u8 {
+fn finish(rt: &HostRuntime, wanted: Wanted, reader: Reader, table: &[u8], path: &mut [u8]) -> u8 {
     let ending = listing::ending_for(reader.refusal, reader.ended);
-    let is_saved = save_to(wanted.save, reader, table, path);
-    if !print_listing(reader, table, ending) {
+    let is_saved = save_to(rt, wanted.save, reader, table, path);
+    if !print_listing(rt, reader, table, ending) {
         return FAILED;
     }
     if !is_saved {
@@ -236,60 +259,68 @@ fn finish(wanted: Wanted, reader: Reader, table: &[u8], path: &mut [u8]) -> u8 {
 }
 
 // What was heard is saved and listed, or it is said why the session could not be read to its end.
-fn conclude(wanted: Wanted, heard: Heard, table: &[u8], path: &mut [u8]) -> u8 {
-    if heard.error == 0 {
-        return finish(wanted, heard.reader, table, path);
+fn conclude(rt: &HostRuntime, wanted: Wanted, heard: Heard, table: &[u8], path: &mut [u8]) -> u8 {
+    match heard.error {
+        None => finish(rt, wanted, heard.reader, table, path),
+        Some(e) => {
+            salvage(rt, wanted.save, heard, table, path);
+            complain(rt, wanted.session, e, path);
+            FAILED
+        }
     }
-    salvage(wanted.save, heard, table, path);
-    complain(wanted.session, heard.error, path);
-    FAILED
 }
 
 fn proceed(
+    rt: &HostRuntime,
     wanted: Wanted,
     reader: Reader,
-    fd: i32,
+    mut input: Input,
     path: &mut [u8],
     table: &mut [u8],
     index: &mut [u8],
 ) -> u8 {
-    let heard = session::read_all(fd, reader, table, index);
-    files::close(fd);
-    conclude(wanted, heard, table, path)
+    let heard = session::read_all(rt, &mut input, reader, table, index);
+    files::close(input);
+    conclude(rt, wanted, heard, table, path)
 }
 
-fn run(wanted: Wanted, path: &mut [u8], table: &mut [u8], index: &mut [u8]) -> u8 {
-    let begun = begin(wanted.from, path, table, index);
+fn run(
+    rt: &HostRuntime,
+    wanted: Wanted,
+    path: &mut [u8],
+    table: &mut [u8],
+    index: &mut [u8],
+) -> u8 {
+    let begun = begin(rt, wanted.from, path, table, index);
     if !begun.is_ready {
         return begun.status;
     }
-    let fd = open_session(wanted.session, path);
-    if fd < 0 {
-        return FAILED;
+    match open_session(rt, wanted.session, path) {
+        Some(input) => proceed(rt, wanted, begun.reader, input, path, table, index),
+        None => FAILED,
     }
-    proceed(wanted, begun.reader, fd, path, table, index)
 }
 
 // What the arguments ask for.
-fn answer(wanted: Wanted) -> u8 {
+fn answer(rt: &HostRuntime, wanted: Wanted) -> u8 {
     if wanted.wrong {
-        print_usage();
+        print_usage(rt);
         return WRONG;
     }
     if wanted.help {
-        print_help();
+        print_help(rt);
         return FINE;
     }
-    let mut path = io::buffer();
+    let mut path = [0u8; MOST_PATH];
     let mut table = [0u8; TABLE_SIZE];
     let mut index = [0u8; INDEX_SIZE];
-    run(wanted, &mut path, &mut table, &mut index)
+    run(rt, wanted, &mut path, &mut table, &mut index)
 }
 
-fn main() {
-    let wanted = arguments::read();
-    let status = answer(wanted);
+fn main(rt: HostRuntime) {
+    let wanted = arguments::read(&rt);
+    let status = answer(&rt, wanted);
     if wanted.status {
-        status::write(status);
+        status::write(&rt, status);
     }
 }

@@ -1,27 +1,30 @@
 // How far a long input is, on standard error where that is a terminal: once a second at most, on one line that is cleared at the end.
-use libc::STDERR_FILENO;
+use std::io::{IsTerminal, Print};
+use std::rt::Clock;
 
 // The second in which it was last shown, and the bytes and the first message's number so far.
 #[derive(Clone, Copy)]
 pub struct Progress {
     is_terminal: bool,
     is_shown: bool,
-    second: i64,
+    second: u64,
     bytes: u64,
     first: u64,
 }
 
-// The second of the clock.
-fn second() -> i64 {
-    let mut now = 0;
-    libc::time(&mut now)
+// The second of the clock, 0 where the system does not say it.
+fn second(rt: &HostRuntime) -> u64 {
+    match rt.since_1970() {
+        Ok(time) => time.as_secs(),
+        Err(_) => 0,
+    }
 }
 
-pub fn start(next: u64) -> Progress {
+pub fn start(rt: &HostRuntime, next: u64) -> Progress {
     Progress {
-        is_terminal: libc::isatty(STDERR_FILENO) == 1,
+        is_terminal: rt.stderr().is_terminal(),
         is_shown: false,
-        second: second(),
+        second: second(rt),
         bytes: 0,
         first: next,
     }
@@ -43,24 +46,20 @@ fn sum(n: u64, more: u64) -> u64 {
     n + more
 }
 
-fn show(bytes: u64, messages: u64) {
-    io::write_all(STDERR_FILENO, b"\rtoplist: ");
-    io::print_decimal(STDERR_FILENO, bytes);
-    io::write_all(STDERR_FILENO, b" bytes, ");
-    io::print_decimal(STDERR_FILENO, messages);
-    io::write_all(STDERR_FILENO, b" messages");
+fn show(rt: &HostRuntime, bytes: u64, messages: u64) {
+    let _ = eprint!(rt; "\rtoplist: {bytes} bytes, {messages} messages");
 }
 
 // So many bytes more came, and the next message has that number.
-pub fn told(p: Progress, count: usize, next: u64) -> Progress {
+pub fn told(rt: &HostRuntime, p: Progress, count: usize, next: u64) -> Progress {
     let bytes = sum(p.bytes, count as u64);
     let first = p.first;
     let mut now = p.second;
     let mut is_shown = p.is_shown;
     if p.is_terminal {
-        now = second();
+        now = second(rt);
         if now != p.second {
-            show(bytes, past(next, first));
+            show(rt, bytes, past(next, first));
             is_shown = true;
         }
     }
@@ -74,8 +73,8 @@ pub fn told(p: Progress, count: usize, next: u64) -> Progress {
 }
 
 // Clears the line.
-pub fn clear(p: Progress) {
+pub fn clear(rt: &HostRuntime, p: Progress) {
     if p.is_shown {
-        io::write_all(STDERR_FILENO, b"\r\x1b[K");
+        let _ = Print::write_all(&rt.stderr(), b"\r\x1b[K");
     }
 }

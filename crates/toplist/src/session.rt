@@ -5,7 +5,13 @@ ghost use Rattle.toplist.specs.Feeding.{takes_more, RunsFrom, Feeds, Stays};
 
 use crate::progress;
 use crate::progress::Progress;
+use files::input::Input;
 use reader::{MOST_PACKETS, Reader};
+use std::io;
+use std::io::Read;
+
+// No piece is longer.
+const MOST_PIECE: usize = 65_536;
 
 // A reader, and how far it is in the piece.
 #[derive(Clone, Copy)]
@@ -14,21 +20,21 @@ pub struct Reached {
     pub at: usize,
 }
 
-// What one read brought: the reader after it, how many bytes came, and the number of the error that broke the input off, 0 for none.
+// What one read brought: the reader after it, how many bytes came, and the error that broke the input off, where there is one.
 #[derive(Clone, Copy)]
 struct Brought {
     reader: Reader,
     count: usize,
-    error: i32,
+    error: Option<io::Error>,
 }
 
-// The reader, whether any byte came and whether all have, the number of the error that broke the input off, 0 for none, and what was shown of it.
+// The reader, whether any byte came and whether all have, the error that broke the input off, where there is one, and what was shown of it.
 #[derive(Clone, Copy)]
 pub struct Heard {
     pub reader: Reader,
     pub any: bool,
     pub over: bool,
-    pub error: i32,
+    pub error: Option<io::Error>,
     pub shown: Progress,
 }
 
@@ -62,8 +68,7 @@ fn feed(reader: Reader, piece: &[u8], table: &mut [u8], index: &mut [u8]) -> Rea
     ensures { Feeds reader (memories table.old index.old) piece.now result (memories table.new index.new) }
 {
     let mut reached = Reached { reader, at: 0 };
-    let mut turns = piece.len();
-    while turns > 0 {
+    for _ in 0..piece.len() {
         let before = reached.reader;
         if !takes_more(before) {
             return before;
@@ -72,14 +77,13 @@ fn feed(reader: Reader, piece: &[u8], table: &mut [u8], index: &mut [u8]) -> Rea
             return before;
         }
         reached = run_from(reached, piece, table, index);
-        turns -= 1;
     }
     reached.reader
 }
 
 // What comes next of the input.
 fn read_some(
-    fd: i32,
+    input: &mut Input,
     reader: Reader,
     space: &mut [u8],
     table: &mut [u8],
@@ -87,32 +91,33 @@ fn read_some(
 ) -> Brought
     ensures { Stays reader (memories table.old index.old) result.reader (memories table.new index.new) }
 {
-    let got = libc::read(fd, space);
-    if got < 0 {
-        return Brought {
+    match input.read(space) {
+        Ok(n) => Brought {
+            reader: feed(reader, &space[..n], table, index),
+            count: n,
+            error: None,
+        },
+        Err(e) => Brought {
             reader,
             count: 0,
-            error: os::errno(),
-        };
-    }
-    let n = io::count(got, space);
-    Brought {
-        reader: feed(reader, &space[..n], table, index),
-        count: n,
-        error: 0,
+            error: Some(e),
+        },
     }
 }
 
 // Is there no more to come? A read that a signal broke off is done again.
-fn is_over(count: usize, error: i32) -> bool {
+fn is_over(count: usize, error: Option<io::Error>) -> bool {
     if count != 0 {
         return false;
     }
-    error != libc::EINTR
+    match error {
+        Some(e) => e.kind() != io::ErrorKind::Interrupted,
+        None => true,
+    }
 }
 
 // What has been heard, with what one more read brought.
-fn after(heard: Heard, b: Brought) -> Heard
+fn after(rt: &HostRuntime, heard: Heard, b: Brought) -> Heard
     ensures { result.reader ≡ b.reader }
 {
     let reader = b.reader;
@@ -121,16 +126,23 @@ fn after(heard: Heard, b: Brought) -> Heard
         any: heard.any | (b.count != 0),
         over: is_over(b.count, b.error),
         error: b.error,
-        shown: progress::told(heard.shown, b.count, reader.line.next),
+        shown: progress::told(rt, heard.shown, b.count, reader.line.next),
     }
 }
 
 // One more read.
-fn hear(fd: i32, heard: Heard, space: &mut [u8], table: &mut [u8], index: &mut [u8]) -> Heard
+fn hear(
+    rt: &HostRuntime,
+    input: &mut Input,
+    heard: Heard,
+    space: &mut [u8],
+    table: &mut [u8],
+    index: &mut [u8],
+) -> Heard
     ensures { Stays heard.reader (memories table.old index.old) result.reader (memories table.new index.new) }
 {
-    let b = read_some(fd, heard.reader, space, table, index);
-    after(heard, b)
+    let b = read_some(input, heard.reader, space, table, index);
+    after(rt, heard, b)
 }
 
 // Does the reader take more, and may more come?
@@ -141,34 +153,45 @@ fn goes_on(heard: Heard) -> bool {
     takes_more(heard.reader)
 }
 
-// Reads and runs to the end. A proved loop has to end, so it counts its turns down from a number that no input uses up.
-fn listen(fd: i32, reader: Reader, space: &mut [u8], table: &mut [u8], index: &mut [u8]) -> Heard
+// Reads and runs to the end. A proved loop has to end, so it has a number of turns that no input uses up.
+fn listen(
+    rt: &HostRuntime,
+    input: &mut Input,
+    reader: Reader,
+    space: &mut [u8],
+    table: &mut [u8],
+    index: &mut [u8],
+) -> Heard
     ensures { Stays reader (memories table.old index.old) result.reader (memories table.new index.new) }
 {
     let mut heard = Heard {
         reader,
         any: false,
         over: false,
-        error: 0,
-        shown: progress::start(reader.line.next),
+        error: None,
+        shown: progress::start(rt, reader.line.next),
     };
-    let mut turns = u64::MAX;
-    while turns > 0 {
+    for _ in 0..u64::MAX {
         if !goes_on(heard) {
             return heard;
         }
-        heard = hear(fd, heard, space, table, index);
-        turns -= 1;
+        heard = hear(rt, input, heard, space, table, index);
     }
     heard
 }
 
 // All of the input.
-pub fn read_all(fd: i32, reader: Reader, table: &mut [u8], index: &mut [u8]) -> Heard
+pub fn read_all(
+    rt: &HostRuntime,
+    input: &mut Input,
+    reader: Reader,
+    table: &mut [u8],
+    index: &mut [u8],
+) -> Heard
     ensures { Stays reader (memories table.old index.old) result.reader (memories table.new index.new) }
 {
-    let mut buffer = io::large_buffer();
-    let heard = listen(fd, reader, &mut buffer, table, index);
-    progress::clear(heard.shown);
+    let mut buffer = [0u8; MOST_PIECE];
+    let heard = listen(rt, input, reader, &mut buffer, table, index);
+    progress::clear(rt, heard.shown);
     heard
 }

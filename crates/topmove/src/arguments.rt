@@ -1,6 +1,7 @@
 // The program's arguments.
 ghost use Rattle.std.specs.Prelude.{◌≤◌};
 
+use files::command_line;
 use image::Way;
 
 #[derive(Clone, Copy)]
@@ -22,9 +23,9 @@ pub struct Wanted {
 }
 
 // Is the argument at that place this word, of 1 to 8 letters?
-fn is(place: usize, word: &[u8]) -> bool {
+fn is(rt: &HostRuntime, place: usize, word: &[u8]) -> bool {
     let mut text = [0u8; 8];
-    let n = os::arg(place, &mut text);
+    let n = command_line::argument(rt, place, &mut text);
     if n != word.len() {
         return false;
     }
@@ -32,35 +33,35 @@ fn is(place: usize, word: &[u8]) -> bool {
 }
 
 // The word at that place, and two arguments behind it, or help.
-fn choice_at(place: usize) -> Choice
+fn choice_at(rt: &HostRuntime, place: usize) -> Choice
     requires { place ≤ 2 }
 {
-    if is(place, b"--help") {
+    if is(rt, place, b"--help") {
         return Choice::Help;
     }
-    if os::arg_count() != place + 3 {
+    if command_line::count(rt) != place + 3 {
         return Choice::Wrong;
     }
-    if is(place, b"forward") {
+    if is(rt, place, b"forward") {
         return Choice::Move(Way::Forward);
     }
-    if is(place, b"back") {
+    if is(rt, place, b"back") {
         return Choice::Move(Way::Back);
     }
     Choice::Wrong
 }
 
-pub fn read() -> Wanted {
-    if is(1, b"--status") {
+pub fn read(rt: &HostRuntime) -> Wanted {
+    if is(rt, 1, b"--status") {
         return Wanted {
-            choice: choice_at(2),
+            choice: choice_at(rt, 2),
             status: true,
             file: 3,
             new: 4,
         };
     }
     Wanted {
-        choice: choice_at(1),
+        choice: choice_at(rt, 1),
         status: false,
         file: 2,
         new: 3,
