@@ -26,40 +26,35 @@ use table::index::Sought;
 // The header that the library goes with names the same version.
 const VERSION: u32 = 6;
 
-#[unsafe(no_mangle)]
-pub extern "C" fn nelqubat_version() -> u32
+pub fn nelqubat_version() -> u32
     ensures { result ≡ host_version }
 {
     VERSION
 }
 
 // How many bytes a handle has.
-#[unsafe(no_mangle)]
-pub extern "C" fn nelqubat_handle_size() -> usize
+pub fn nelqubat_handle_size() -> usize
     ensures { result ≡ handle_size }
 {
     HANDLE_SIZE
 }
 
 // How many bytes table memory has.
-#[unsafe(no_mangle)]
-pub extern "C" fn nelqubat_table_size() -> usize
+pub fn nelqubat_table_size() -> usize
     ensures { result ≡ table_size }
 {
     table::TABLE_SIZE
 }
 
 // How many bytes index memory has.
-#[unsafe(no_mangle)]
-pub extern "C" fn nelqubat_index_size() -> usize
+pub fn nelqubat_index_size() -> usize
     ensures { result ≡ index_size }
 {
     index::INDEX_SIZE
 }
 
 // How many bytes a message's record and event memory have.
-#[unsafe(no_mangle)]
-pub extern "C" fn nelqubat_record_size() -> usize
+pub fn nelqubat_record_size() -> usize
     ensures { result ≡ record_size }
 {
     RECORD_SIZE
@@ -75,8 +70,7 @@ fn put_unheld(h: Head, handle: &mut [u8])
 }
 
 // Makes a handle fresh, and fills the table and its index with zeros.
-#[unsafe(no_mangle)]
-pub extern "C" fn nelqubat_start(handle: &mut [u8], table: &mut [u8], index: &mut [u8]) -> u32
+pub fn nelqubat_start(handle: &mut [u8], table: &mut [u8], index: &mut [u8]) -> u32
     ensures host_starts { HostStarts handle.old (memories table.old index.old) result handle.new (memories table.new index.new) }
     ensures starts_on { StartsOn handle.old (memories table.old index.old) handle.new (memories table.new index.new) }
 {
@@ -94,8 +88,7 @@ pub extern "C" fn nelqubat_start(handle: &mut [u8], table: &mut [u8], index: &mu
 }
 
 // Takes at most one packet of the piece. The second byte of the answer is its kind, the upper half the count of bytes taken.
-#[unsafe(no_mangle)]
-pub extern "C" fn nelqubat_step(
+pub fn nelqubat_step(
     handle: &mut [u8],
     table: &mut [u8],
     index: &mut [u8],
@@ -110,8 +103,7 @@ pub extern "C" fn nelqubat_step(
 
 // Takes packets of the piece until so many are finished. The second byte of the answer says why it stopped, the two after that how many packets were
 // finished, and the upper half is the count of bytes taken.
-#[unsafe(no_mangle)]
-pub extern "C" fn nelqubat_run(
+pub fn nelqubat_run(
     handle: &mut [u8],
     table: &mut [u8],
     index: &mut [u8],
@@ -136,8 +128,7 @@ fn saved_number(saved: Saved) -> u32
 }
 
 // The image of the table to the front of `out`.
-#[unsafe(no_mangle)]
-pub extern "C" fn nelqubat_save(handle: &[u8], table: &[u8], out: &mut [u8]) -> u32
+pub fn nelqubat_save(handle: &[u8], table: &[u8], out: &mut [u8]) -> u32
     ensures { HostSaves handle.now table.now out.old result out.new }
 {
     if !handle::is_handle(handle) {
@@ -147,16 +138,14 @@ pub extern "C" fn nelqubat_save(handle: &[u8], table: &[u8], out: &mut [u8]) -> 
 }
 
 // An image of version 1 or 2 as version 3, to the front of `out`; the answer is as of saving.
-#[unsafe(no_mangle)]
-pub extern "C" fn nelqubat_forward(image: &[u8], out: &mut [u8]) -> u32
+pub fn nelqubat_forward(image: &[u8], out: &mut [u8]) -> u32
     ensures { HostMoves Forward image.now out.old result out.new }
 {
     saved_number(image::moves::forward(image, out))
 }
 
 // An image of version 3 as version 1 or 2 by its rows, to the front of `out`; the answer is as of saving.
-#[unsafe(no_mangle)]
-pub extern "C" fn nelqubat_back(image: &[u8], out: &mut [u8]) -> u32
+pub fn nelqubat_back(image: &[u8], out: &mut [u8]) -> u32
     ensures { HostMoves Back image.now out.old result out.new }
 {
     saved_number(image::moves::back(image, out))
@@ -172,13 +161,7 @@ fn verdict_number(verdict: image::Verdict) -> u32
 }
 
 // The handle and the table that an image holds, and the index of its rows.
-#[unsafe(no_mangle)]
-pub extern "C" fn nelqubat_restore(
-    handle: &mut [u8],
-    table: &mut [u8],
-    index: &mut [u8],
-    saved: &[u8],
-) -> u32
+pub fn nelqubat_restore(handle: &mut [u8], table: &mut [u8], index: &mut [u8], saved: &[u8]) -> u32
     ensures host_restores { HostRestores handle.old (memories table.old index.old) saved.now result handle.new (memories table.new index.new) }
     ensures restores_on { RestoresOn handle.old (memories table.old index.old) saved.now handle.new (memories table.new index.new) }
 {
@@ -193,16 +176,14 @@ pub extern "C" fn nelqubat_restore(
 }
 
 // A message's bytes read to its record.
-#[unsafe(no_mangle)]
-pub extern "C" fn nelqubat_read(bytes: &[u8], memory: &mut [u8]) -> u32
+pub fn nelqubat_read(bytes: &[u8], memory: &mut [u8]) -> u32
     ensures { answered result memory.new ≡ read_answer bytes.now memory.old }
 {
     record::read(bytes, memory)
 }
 
 // A record written as its message's bytes.
-#[unsafe(no_mangle)]
-pub extern "C" fn nelqubat_write(memory: &[u8], out: &mut [u8]) -> u32
+pub fn nelqubat_write(memory: &[u8], out: &mut [u8]) -> u32
     ensures { answered result out.new ≡ write_answer memory.now out.old }
 {
     record::write(memory, out)
@@ -235,8 +216,7 @@ fn put_shown(text: Text, out: &mut [u8]) -> u32
 }
 
 // Line k of the listing to the front of `out`; past the last line there is nothing to write.
-#[unsafe(no_mangle)]
-pub extern "C" fn nelqubat_line(handle: &[u8], table: &[u8], k: usize, out: &mut [u8]) -> u32
+pub fn nelqubat_line(handle: &[u8], table: &[u8], k: usize, out: &mut [u8]) -> u32
     ensures { answered result out.new ≡ line_host handle.now table.now k out.old }
 {
     if !reader::within_limits(handle, table) {
@@ -261,8 +241,7 @@ fn found_number(found: Sought) -> u32
 }
 
 // The row for an id.
-#[unsafe(no_mangle)]
-pub extern "C" fn nelqubat_find(handle: &[u8], table: &[u8], index: &[u8], id: u32) -> u32
+pub fn nelqubat_find(handle: &[u8], table: &[u8], index: &[u8], id: u32) -> u32
     ensures { result ≡ find_host handle.now (memories table.now index.now) id }
 {
     if !reader::within_limits(handle, table) {
