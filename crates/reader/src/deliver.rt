@@ -98,7 +98,7 @@ pub fn message(
     body: &[u8],
 ) -> u32
     requires { Ready handle.old (memories table.old index.old) × ((rows ≡ (head_of handle.old).board.rows) × ((next ≡ (head_of handle.old).line.next) × (next < highest_number))) }
-    ensures index_after { left result handle.new (memories table.new index.new) ≡ closed_as (delivered (head_of handle.old).line (deliver (table_of (head_of handle.old).board (memories table.old index.old)) body.now)) handle.old }
+    ensures closes { left result handle.new (memories table.new index.new) ≡ closed_as (delivered (head_of handle.old).line (deliver (table_of (head_of handle.old).board (memories table.old index.old)) body.now)) handle.old }
     ensures upper_bound { result < 65_536 }
 {
     let r = tried(rows, handle, table, index, body);

@@ -193,7 +193,7 @@ fn mended(
     event: &mut [u8],
 ) -> u32
     requires { Holding handle.old (memories table.old index.old) × ((rows ≡ (head_of handle.old).board.rows) × ((used ≡ (head_of handle.old).used) × (length event.old ≡ record_size))) }
-    ensures index_after { left result handle.new (memories table.new index.new) ≡ heeded_on handle.old (memories table.old index.old) piece.now }
+    ensures heeds { left result handle.new (memories table.new index.new) ≡ heeded_on handle.old (memories table.old index.old) piece.now }
     ensures event_after { event.new ≡ told_memory (step_on handle.old (memories table.old index.old) piece.now).answer event.old }
 {
     let n = packet::room(used, piece.len());

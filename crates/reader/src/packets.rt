@@ -37,7 +37,7 @@ fn log_in(handle: &mut [u8], body: &[u8])
 // A packet that is no message for the next number.
 fn other(handle: &mut [u8], letter: u8, body: &[u8]) -> u32
     requires { ((t : Memories) × Ready handle.old t) × (is_message (packet_of (head_of handle.old).line letter body.now) ≡ false) }
-    ensures t_after { (t : Memories) → left result handle.new t ≡ closed_as (soup_bin_tcp deliver (session_at handle.old t) letter body.now) handle.old }
+    ensures closes { (t : Memories) → left result handle.new t ≡ closed_as (soup_bin_tcp deliver (session_at handle.old t) letter body.now) handle.old }
     ensures upper_bound { result < 65_536 }
 {
     let head = handle::read_head(handle);
@@ -72,7 +72,7 @@ pub fn act(
     body: &[u8],
 ) -> u32
     requires { Ready handle.old (memories table.old index.old) × (rows ≡ (head_of handle.old).board.rows) }
-    ensures index_after { left result handle.new (memories table.new index.new) ≡ closed_as (soup_bin_tcp deliver (session_at handle.old (memories table.old index.old)) letter body.now) handle.old }
+    ensures closes { left result handle.new (memories table.new index.new) ≡ closed_as (soup_bin_tcp deliver (session_at handle.old (memories table.old index.old)) letter body.now) handle.old }
     ensures upper_bound { result < 65_536 }
 {
     let next = handle::next(handle);

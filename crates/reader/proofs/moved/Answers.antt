@@ -117,5 +117,5 @@ returns c =
     let memory : Memories = memories c.args.table.now c.args.index.now in
     let is : is_handle c.args.handle.now ≡ true = may-handle c.args.handle.now memory c.requires.0 in
     let lent : Lent c.args.handle.now = search (rules, c.slice_known-1) in
-    steps-told c.args.handle.now memory c.args.piece.now c.args.event.now c.requires.1.0 is (turned-live c.args.handle.now memory c.args.piece.now lent c.requires.0 c.goes_on.ensures (ap not c.if-not-goes_on.false) c.mended.ensures.index_after)
+    steps-told c.args.handle.now memory c.args.piece.now c.args.event.now c.requires.1.0 is (turned-live c.args.handle.now memory c.args.piece.now lent c.requires.0 c.goes_on.ensures (ap not c.if-not-goes_on.false) c.mended.ensures.heeds)
     (c.mended.ensures.event_after ∙ answers c.args.handle.now memory c.args.piece.now lent c.requires.0 c.goes_on.ensures (ap not c.if-not-goes_on.false) c.args.event.now)

@@ -88,4 +88,4 @@ pub returns-in-Whole : goal.returns-in-Whole
 returns-in-Whole c =
     let memory : Memories = memories c.args.table.now c.args.index.now in
     let lent : Lent c.args.handle.now = search (rules, c.slice_known-1) in
-    straight-whole c.args.handle.now memory c.requires.0 lent c.args.piece.now c.front.ensures c.in-Whole.size c.in-Whole.is c.act.ensures.index_after
+    straight-whole c.args.handle.now memory c.requires.0 lent c.args.piece.now c.front.ensures c.in-Whole.size c.in-Whole.is c.act.ensures.closes

@@ -80,4 +80,4 @@ pub returns : goal.returns
 returns c =
     let memory : Memories = memories c.args.table.now c.args.index.now in
     let lent : Lent c.args.handle.now = search (rules, c.slice_known-1) in
-    turned-live c.args.handle.now memory c.args.piece.now lent c.requires c.goes_on.ensures (ap not c.if-not-goes_on.false) c.mended.ensures.index_after
+    turned-live c.args.handle.now memory c.args.piece.now lent c.requires c.goes_on.ensures (ap not c.if-not-goes_on.false) c.mended.ensures.heeds
