@@ -40,7 +40,7 @@ use Rattle.table.specs.declared.Verdict.{Verdict}
 use Rattle.table.specs.declared.Verdict.TheVariants.{Accepted, Refused}
 use Rattle.table.proofs.Ways.{rows-fitting, fitting-lent}
 use Rattle.table.proofs.Exactly.{LeftBy, apply-leaves}
-use Rattle.reader.specs.Refusals.{refusal_number, standing}
+use Rattle.reader.specs.Refusals.{standing}
 use Rattle.reader.specs.Deliver.{Table, table_of, table_by, Said, said, settled_by, heard, deliver}
 use Rattle.reader.specs.View.{session_of, held_of, state_of, Seen}
 use Rattle.reader.specs.Limits.{may_step}

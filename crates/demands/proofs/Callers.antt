@@ -11,7 +11,7 @@ use lib.ListN.{length, drop, replicate, length-replicate}
 use Rattle.field.specs.Bytes.{Bytes}
 use Rattle.field.proofs.Bools.{both_left, both_right}
 use Rattle.message.specs.Letters.{listed}
-use Rattle.packet.specs.Frame.{short, frame}
+use Rattle.packet.specs.Frame.{frame}
 use Rattle.packet.specs.Line.{fresh_line}
 use Rattle.packet.specs.Stream as stream
 use Rattle.packet.specs.Stream.{State, live, NothingLeft, reading, events_of, Called, step_of}

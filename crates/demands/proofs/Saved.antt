@@ -16,7 +16,7 @@ use Rattle.field.proofs.Bools.{both_left, both_right}
 use Rattle.field.proofs.Runs.{spaces-are}
 use Rattle.field.proofs.Parts.{part-all, part_length}
 use Rattle.field.proofs.Numbers.{part_bytes}
-use Rattle.packet.specs.Frame.{short, frame}
+use Rattle.packet.specs.Frame.{frame}
 use Rattle.packet.specs.Stream.{live}
 use Rattle.packet.specs.Line.{fresh_line, InRange}
 use Rattle.packet.specs.Session.{Session}

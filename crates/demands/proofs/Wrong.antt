@@ -13,7 +13,7 @@ use Rattle.packet.specs.Stream.{step_of}
 use Rattle.packet.specs.Ceiling.{run_by}
 use Rattle.packet.specs.Table.{packet_table, entry_of}
 use Rattle.packet.specs.Line.{fresh_line, packet_of}
-use Rattle.packet.specs.Session.{Event, soup_bin_tcp}
+use Rattle.packet.specs.Session.{soup_bin_tcp}
 use Rattle.table.specs.Memory.{table_size, Memories}
 use Rattle.table.specs.Index.{index_size}
 use Rattle.table.specs.Board.{fresh_board, fits}

@@ -12,7 +12,7 @@ use borrow.Rule.Slice.PartMut.{put_mid}
 use Rattle.field.proofs.Parts.{part_length, part-whole, part-back, overlay-length, overlay-whole}
 use Rattle.field.proofs.Numbers.{digits-length, Lent, lent-bytes}
 use Rattle.field.proofs.Decimals.{before-length, count_most}
-use Rattle.field.proofs.Writes.{Piece, piece, run-joined, carried-run}
+use Rattle.field.proofs.Writes.{piece, run-joined, carried-run}
 use Rattle.message.specs.Layout.{amount, bytes_for, values}
 use Rattle.message.specs.Letters.{stamp_rows, stamp_fields, system_event_rows, system_event_fields, instrument_rows, instrument_fields, directory_rows, directory_fields, quote_rows, quote_fields, long_price, short_numbers_rows, short_numbers_fields, long_numbers_rows, long_numbers_fields, long_numbers_of, short_quote_rows, short_quote_fields, long_quote_rows, long_quote_fields, short_side_code, short_side_rows, short_side_fields, long_side_code, long_side_rows, long_side_fields, end_of_replay_rows, end_of_replay_fields, entry_size, system_event_letter, directory_letter, short_quote_letter, long_quote_letter, short_side_letter, long_side_letter, end_of_replay_letter}
 use Rattle.message.proofs.Layouts.{fields-run}

@@ -28,7 +28,6 @@ use Rattle.message.specs.declared.Directory.{Directory}
 use Rattle.message.specs.declared.EndOfReplay.{EndOfReplay}
 use Rattle.message.specs.declared.Texts.{Texts}
 use Rattle.message.specs.declared.Refusal.TheVariants.{UnknownLetter, WrongLength, BadField}
-use Rattle.message.specs.declared.Answer.TheVariants.{Is}
 use Rattle.message.specs.declared.Reading.{Reading}
 use Rattle.message.specs.declared.Written.TheVariants.{Whole, Unwritten}
 use Rattle.message.specs.declared.WriteRefusal.TheVariants.{BrokenRecord, ShortOutput}

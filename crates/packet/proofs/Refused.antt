@@ -8,7 +8,7 @@ use native.Mathlib.Omega.{arith}
 use lib.ListN.{length, take, take-append-drop}
 use Rattle.packet.specs.Refusals.{fault_number}
 use Rattle.packet.specs.Frame.{Framed, short, bad_length, packet, frame}
-use Rattle.packet.specs.Stream.{Verdict, accept, finish, refuse, State, live, ended, refused, refused_by, Event, Ended, Refused, Run, first, judged, read_all, reading, step_judged, step_framed, step_of, Leaves, Refuses, RefusedAt}
+use Rattle.packet.specs.Stream.{Verdict, accept, finish, refuse, State, live, ended, refused, refused_by, Ended, Refused, Run, first, judged, read_all, reading, step_judged, step_framed, step_of, Leaves, Refuses, RefusedAt}
 use Rattle.packet.specs.Line.{packet_of}
 use Rattle.packet.specs.Session as session
 use Rattle.packet.specs.Session.{Delivered, done, denied, Session, delivered, does, soup_bin_tcp}

@@ -37,7 +37,6 @@ use Rattle.reader.specs.Running.{most_packets, SeenRun, seen_run, why_of, refuse
 use Rattle.reader.specs.declared.Refusal.{Refusal}
 use Rattle.reader.specs.declared.Refusal.TheVariants.{Unfit, HighCeiling}
 use Rattle.reader.specs.declared.Reader.{Reader}
-use Rattle.reader.specs.declared.Ran.{Ran}
 use Rattle.reader.specs.declared.Why.{Why}
 use Rattle.reader.specs.declared.Why.TheVariants as why
 use Rattle.reader.proofs.Kept.{Within, may-within, may-not}

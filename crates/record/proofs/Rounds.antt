@@ -34,7 +34,7 @@ use Rattle.message.proofs.Rounds.{bytes-length, read-write, write_read}
 use Rattle.message.proofs.Typed.{inside, accepted-typed}
 use Rattle.message.proofs.NoZero.{kept-no-zero}
 use Rattle.record.specs.Places.{record_size, letter_place, places_for, short_side_places, long_side_places, record_letters, record_letter, record_letter_for}
-use Rattle.record.specs.Record.{laid, laid_over, record_bytes, held, said_by, said_of, confirmed, record_of, Answered, answered, read_to, read_answer, written_as, write_from, write_answer, Roomy}
+use Rattle.record.specs.Record.{laid_over, record_bytes, held, said_by, said_of, confirmed, record_of, Answered, answered, read_to, read_answer, written_as, write_from, write_answer, Roomy}
 use Rattle.record.specs.declared.Taken.{Taken}
 use Rattle.record.specs.declared.Taken.TheVariants.{Is, NoRecord}
 use Rattle.record.proofs.Laid.{apart, outside, laid-length, part-kept, fit_wide, values-laid, laid-own}

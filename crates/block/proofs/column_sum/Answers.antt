@@ -1,6 +1,5 @@
 -- `block::column_sum` meets its contract.
 use borrow.Author.Rules.{rules}
-use Prim.Native.Nat.{◌-◌}
 use native.Mathlib.Omega.{arith}
 use Rattle.block.proofs.Columns.{runs_none, runs-turn, runs-whole, weighed}
 use Rattle.block.proofs.column_sum.Goals as goal

@@ -1,6 +1,5 @@
 -- `field::copy` meets its contract.
 use mathlib.Core.Path.{refl, ◌≡◌}
-use Prim.Native.Nat.{◌-◌}
 use native.Mathlib.Omega.{arith}
 use lib.ListN.{length-set}
 use borrow.Author.Rules.{rules}

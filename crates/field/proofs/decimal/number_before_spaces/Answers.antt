@@ -1,5 +1,4 @@
 -- `field::decimal::number_before_spaces` meets its contract. The first k characters are digits, and v is what they write.
-use Prim.Native.Nat.{◌-◌}
 use borrow.Author.Rules.{rules}
 use Rattle.field.proofs.Decimals.{leads-low, leads-all, before-high, before-past, digits-none, digits_more, value_none, value-more}
 use Rattle.field.proofs.decimal.number_before_spaces.Goals as goal

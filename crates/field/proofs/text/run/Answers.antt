@@ -1,5 +1,4 @@
 -- `field::text::run` meets its contract. After k characters the run is k and the run of what is left.
-use Prim.Native.Nat.{◌-◌}
 use native.Mathlib.Omega.{arith}
 use borrow.Author.Rules.{rules}
 use Rattle.field.specs.Text.{within}

@@ -1,6 +1,5 @@
 -- `image::each_row::all` meets its contract.
 use mathlib.Core.Path.{refl}
-use Prim.Native.Nat.{◌-◌}
 use native.Mathlib.Omega.{arith}
 use borrow.Author.Rules.{rules}
 use Rattle.table.proofs.Each.{each_none, each_turn, each-end}

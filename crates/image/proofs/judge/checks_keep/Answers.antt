@@ -1,5 +1,4 @@
 -- `image::judge::checks_keep` meets its contract.
-use Prim.Native.Nat.{◌-◌}
 use Rattle.image.proofs.Judged.{checks-none, checks-stop, checks-on, checks-end}
 use borrow.Author.Rules.{rules}
 use Rattle.image.proofs.judge.checks_keep.Goals as goal

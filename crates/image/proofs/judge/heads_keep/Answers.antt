@@ -1,5 +1,4 @@
 -- `image::judge::heads_keep` meets its contract.
-use Prim.Native.Nat.{◌-◌}
 use Rattle.image.proofs.Below.{below_none}
 use Rattle.image.proofs.Judged.{head-fits, heads-range, heads-stop, heads-on, heads-end}
 use borrow.Author.Rules.{rules}

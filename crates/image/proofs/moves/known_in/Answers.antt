@@ -1,6 +1,5 @@
 -- `image::moves::known_in` meets its contract.
 use mathlib.Core.Path.{refl}
-use Prim.Native.Nat.{◌-◌}
 use native.Mathlib.Omega.{arith}
 use borrow.Author.Rules.{rules}
 use Rattle.image.proofs.Writes.{row_inside, few-used, known-begin, known-turn, known-end}

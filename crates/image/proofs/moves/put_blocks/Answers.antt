@@ -1,6 +1,5 @@
 -- `image::moves::put_blocks` meets its contract.
 use mathlib.Core.Path.{refl}
-use Prim.Native.Nat.{◌-◌}
 use borrow.Author.Rules.{rules}
 use Rattle.image.proofs.Puts.{blocks-none, blocks-all}
 use Rattle.image.proofs.Writes.{moved-turn}

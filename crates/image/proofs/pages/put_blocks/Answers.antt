@@ -1,6 +1,5 @@
 -- `image::pages::put_blocks` meets its contract.
 use mathlib.Core.Path.{◌≡◌, refl}
-use Prim.Native.Nat.{◌-◌}
 use lib.ListN.{length}
 use Rattle.image.proofs.Puts.{blocks-none, blocks-turn, blocks-all}
 use borrow.Author.Rules.{rules}

@@ -1,5 +1,4 @@
 -- `image::rows::each_keeps` meets its contract.
-use Prim.Native.Nat.{◌-◌}
 use native.Mathlib.Omega.{arith}
 use Rattle.image.proofs.Below.{below_none, below_end}
 use Rattle.image.proofs.Laid.{row_fits}

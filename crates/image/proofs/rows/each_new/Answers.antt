@@ -1,6 +1,5 @@
 -- `image::rows::each_new` meets its contract.
 use mathlib.Core.Path.{refl}
-use Prim.Native.Nat.{◌-◌}
 use native.Mathlib.Omega.{arith}
 use Rattle.image.proofs.Below.{below_none, below_end}
 use Rattle.image.proofs.Laid.{row_fits}

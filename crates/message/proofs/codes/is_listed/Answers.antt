@@ -1,6 +1,5 @@
 -- `message::codes::is_listed` meets its contract: what is passed of the list does not have the code.
 use mathlib.Core.Path.{refl, sym, ◌∙◌}
-use Prim.Native.Nat.{◌-◌}
 use borrow.Author.Rules.{rules}
 use Rattle.message.proofs.Table.{listed_here, listed-on, listed-none}
 use Rattle.message.proofs.codes.is_listed.Goals as goal

@@ -1,6 +1,6 @@
 -- `message::lengths::length_in` meets its contract: what is passed of the table does not have the letter.
 use mathlib.Core.Path.{refl, sym, ◌∙◌}
-use Prim.Native.Nat.{◌+◌, ◌-◌}
+use Prim.Native.Nat.{◌+◌}
 use native.Mathlib.Omega.{arith}
 use borrow.Author.Rules.{rules}
 use Rattle.message.proofs.Feeds.{length-here, length-on, length_none}

@@ -2,7 +2,6 @@
 use borrow.Author.Rules.{rules}
 use native.Mathlib.Omega.{arith}
 use mathlib.Core.Path.{refl}
-use Prim.Native.Nat.{◌-◌}
 use Rattle.field.specs.Bytes.{Bytes}
 use Rattle.field.proofs.Numbers.{lent-bytes}
 use Rattle.handle.proofs.Rounds.{handle-length}
