@@ -1,11 +1,11 @@
--- Runs through a piece: what is left of it leads where the whole of it leads, and the turns do not run out before the bytes, since each takes one at least.
+-- Runs through a piece: what is left of it leads where the whole of it leads, and the turns do not run out before the bytes.
 -- Assumes nothing.
 use mathlib.Core.Path.{◌≡◌, refl, sym, ap, ◌∙◌, subst}
 use mathlib.Core.Bool.{Bool, true, false, ◌&&◌, not, cond}
 use mathlib.Core.List.{List, []}
 use Prim.Native.Nat.{ℕ, ◌+◌, ◌-◌, ◌≤◌, ◌<◌}
 use native.Mathlib.Omega.{arith}
-use borrow.Author.Tests.{eqb-true}
+use borrow.Author.Tests.{eqb-true, eq-eqb, ne_eqb}
 use lib.Dec.{eqb, leb}
 use lib.ListN.{length, take, drop, length-drop, take-append-drop}
 use lib.Seq.{take-length, drop-length, drop-drop}
@@ -35,6 +35,12 @@ use Rattle.toplist.specs.Feeding.{takes_more, RunsFrom, Fed}
 use Rattle.toplist.specs.declared.session.Reached.{Reached}
 
 -- ---- does the reader take more?
+
+pub refused-takes : (r : Reader) → (r.refusal ≡ 0 → ⊥) → false ≡ takes_more r
+refused-takes r d = rw (ne_eqb r.refusal 0 d)
+
+pub open-takes : (r : Reader) → r.refusal ≡ 0 → not r.ended ≡ takes_more r
+open-takes r e = rw (eq-eqb r.refusal 0 e)
 
 not-true : (b : Bool) → not b ≡ true → b ≡ false
 not-true true e = sym e
@@ -90,13 +96,13 @@ module _ (r₀ : Reader) (t₀ : Memories) (piece : List ℕ) where
   pub record Along (a : Reached) (t : Memories) (turns : ℕ) : Type 0 where
     pub ours : Ours a.reader t
     pub state : (reading (soup_bin_tcp deliver) (state_of a.reader t) (drop a.at piece)).state ≡ (reading (soup_bin_tcp deliver) (state_of r₀ t₀) piece).state
-    pub room : takes_more a.reader ≡ true → turns ≤ a.at
+    pub room : takes_more a.reader ≡ true → length piece ≤ a.at + turns
 
-  pub begins : Ours r₀ t₀ → Along (record { reader = r₀; at = 0 }) t₀ 0
+  pub begins : Ours r₀ t₀ → Along (record { reader = r₀; at = 0 }) t₀ (length piece)
   begins o = record { ours = o; state = refl; room = λ e. omega arith }
 
   module _ (a b : Reached) (t t' : Memories) (turns : ℕ) (bytes : Bytes piece) (more : takes_more a.reader ≡ true) (some : a.at < length piece)
-      (from : RunsFrom a t piece b t') (along : Along a t turns) where
+      (from : RunsFrom a t piece b t') (again : 1 ≤ turns) (along : Along a t turns) where
     abbrev left : List ℕ
     left = drop a.at piece
 
@@ -119,7 +125,7 @@ module _ (r₀ : Reader) (t₀ : Memories) (piece : List ℕ) where
         ∙ ap (λ (y : State (Session Table)). (reading (soup_bin_tcp deliver) y (drop b.at piece)).state)
         (sym counts.1 ∙ ap (λ (r : Reader). state_of r t') (sym from.reader))
 
-    pub goes_on : Along b t' (turns + 1)
+    pub goes_on : Along b t' (turns - 1)
     goes_on =
         let g =
         run-gets-on a.reader t left most_packets from.ran t' along.ours left-bytes from.promise (alive a.reader more) (omega arith) (omega arith)

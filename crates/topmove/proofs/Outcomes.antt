@@ -25,6 +25,10 @@ use Rattle.topmove.specs.declared.moving.Moved.{Moved}
 use Rattle.topmove.specs.declared.moving.Outcome.{Outcome}
 use Rattle.topmove.specs.declared.moving.Outcome.TheVariants.{Done, Refused}
 
+-- the move by its way
+pub by_way : {way v : Way} {s : Saving} (image out : List ℕ) → way ≡ v → s ≡ move_of v image out → s ≡ move_of way image out
+by_way image out e p = p ∙ ap (λ (w : Way). move_of w image out) (sym e)
+
 -- ---- what is read off the moved bytes
 
 pub facts-read : (image moved : List ℕ) {h : Head} {rows lost : ℕ} → h ≡ head_at moved 0 → rows ≡ be (part moved 26 2) → lost ≡ lost_of image
