@@ -26,7 +26,7 @@ const LETTERS: usize = 6;
 
 const MOST_DRAWS: u32 = 238_328;
 
-#[derive(Drop)]
+#[derive(Clone, Copy)]
 pub enum Loaded {
     Bytes(usize),
     Failed,

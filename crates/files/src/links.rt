@@ -1,5 +1,7 @@
 // The file that a name leads to: a chain of symbolic links is followed to its end, so that a file is replaced and no link is.
-ghost use Rattle.std.specs.Prelude.{◌≤◌, IfOk, length};
+ghost use Rattle.std.specs.Prelude.{◌≡◌, ◌≤◌, IfErr, IfOk, length};
+ghost use Rattle.std.specs.IoError.{raw_os_error};
+ghost use Rattle.std.specs.declared.option.Option.TheVariants.{None};
 
 use crate::names;
 use std::io;
@@ -19,7 +21,8 @@ fn copy_front(from: &[u8], to: &mut [u8]) -> usize
 // Where a link leads: how many bytes its text has, 0 where the name is no link.
 fn link_text(rt: &HostRuntime, path: &[u8], n: usize, text: &mut [u8]) -> io::Result<usize>
     requires { n ≤ length path.now }
-    ensures { IfOk result (λ m. m ≤ length text.new) }
+    ensures within { IfOk result (λ m. m ≤ length text.new) }
+    ensures not_os { IfErr result (λ e. raw_os_error e ≡ None) }
 {
     match names::read_link(rt, &path[..n])? {
         Some(led) => Ok(copy_front(led.as_str().as_bytes(), text)),
@@ -67,9 +70,11 @@ fn follow(path: &mut [u8], n: usize, text: &[u8], size: usize) -> usize
 }
 
 // Puts the file that the first n bytes of `path` lead to at its front, and answers its length; 0 where it has no room or the chain has no end.
+// No error is the system's: it says that there was no memory for the text of a link, or that a name is no UTF-8 text. No file is changed.
 pub fn followed(rt: &HostRuntime, path: &mut [u8], n: usize) -> io::Result<usize>
     requires { n ≤ length path.old }
-    ensures { IfOk result (λ m. m ≤ length path.new) }
+    ensures within { IfOk result (λ m. m ≤ length path.new) }
+    ensures not_os { IfErr result (λ e. raw_os_error e ≡ None) }
 {
     let mut text = [0u8; 4096];
     let mut size = n;

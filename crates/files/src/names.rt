@@ -1,4 +1,8 @@
 // The names of files. They are bytes to the programs and to the system, and text to the library between them.
+ghost use Rattle.std.specs.Prelude.{◌≡◌, IfErr};
+ghost use Rattle.std.specs.IoError.{raw_os_error};
+ghost use Rattle.std.specs.declared.option.Option.TheVariants.{None};
+
 use std::fs::{File, OpenOptions};
 use std::os::unix::fs::OpenOptionsExt;
 use std::path::PathBuf;
@@ -7,7 +11,9 @@ use std::{fs, io};
 // Who may read and write a new file: the one who made it.
 const OWNER_ONLY: u32 = 0o600;
 
-fn text(name: &[u8]) -> io::Result<&str> {
+fn text(name: &[u8]) -> io::Result<&str>
+    ensures { IfErr result (λ e. raw_os_error e ≡ None) }
+{
     match str::from_utf8(name) {
         Ok(text) => Ok(text),
         Err(_) => Err(io::Error::new(io::ErrorKind::InvalidFilename, "the name is no UTF-8 text")),
@@ -37,7 +43,9 @@ pub fn remove(rt: &HostRuntime, name: &[u8]) -> io::Result<()> {
 
 // Where a link leads, and nothing where the system says that the name is no link. The text of a link is allocated, and an error says
 // that there was no memory for it, or that it is no UTF-8 text.
-pub fn read_link(rt: &HostRuntime, name: &[u8]) -> io::Result<Option<PathBuf>> {
+pub fn read_link(rt: &HostRuntime, name: &[u8]) -> io::Result<Option<PathBuf>>
+    ensures { IfErr result (λ e. raw_os_error e ≡ None) }
+{
     match fs::read_link(rt, text(name)?) {
         Ok(led) => Ok(Some(led)),
         Err(e) if e.raw_os_error().is_some() => Ok(None),
