@@ -56,7 +56,7 @@
  * where the time of every seen side was unknown.
  *
  * Stack: measured by `host/run stack`, a step and a run take up to 1,500 bytes,
- * saving, restoring and moving up to 2,600 and every other call up to 400 (to measure);
+ * saving, restoring and moving up to 2,600 and every other call up to 400;
  * NELQUBAT_STACK_BYTES is more than any was seen to take.
  *
  * Threads: calls that share no memory may run at the same time. While a step, a
