@@ -25,7 +25,7 @@ const STRIPS: usize = 15;
 
 const STRIP_SIZE: usize = CHECKED_SIZE / STRIPS;
 
-#[derive(Clone, Copy)]
+#[derive(Clone, Copy, PartialEq, Eq)]
 pub struct Head {
     // The block's place, from 0.
     pub number: u16,
@@ -47,7 +47,7 @@ fn column_sum(s: &[u8], at: usize, weight: usize) -> usize
     while strip > 0 {
         strip -= 1;
         sums += bytes;
-        bytes += field::read1(s, at + strip * STRIP_SIZE) as u16;
+        bytes += field::read::<u8>(s, at + strip * STRIP_SIZE) as u16;
     }
     weight * (bytes as usize) + STRIP_SIZE * (sums as usize)
 }
@@ -71,7 +71,7 @@ pub fn check_keeps(s: &[u8], at: usize) -> bool
     requires { at + block_size ≤ length s.now }
     ensures { result ≡ check_keeps s.now at }
 {
-    field::read2(s, at + CHECKED_SIZE) == check(s, at)
+    field::read::<u16>(s, at + CHECKED_SIZE) == check(s, at)
 }
 
 // The check of the block at `at`, to its place.
@@ -80,17 +80,17 @@ pub fn put_check(out: &mut [u8], at: usize)
     ensures { out.new ≡ overlay out.old (at + checked_size) (bytes_be 2 (check_of (part out.old at checked_size))) }
 {
     let sum = check(out, at);
-    field::write2(out, at + CHECKED_SIZE, sum);
+    field::write::<u16>(out, at + CHECKED_SIZE, sum);
 }
 
 pub fn put_head(out: &mut [u8], at: usize, h: Head)
     requires { at + head_size ≤ length out.old }
     ensures { out.new ≡ overlay out.old at (head_bytes h) }
 {
-    field::write2(out, at, h.number);
-    field::write2(out, at + 2, h.count);
-    field::write2(out, at + 4, h.version);
-    field::write8(out, at + 6, h.next);
+    field::write::<u16>(out, at, h.number);
+    field::write::<u16>(out, at + 2, h.count);
+    field::write::<u16>(out, at + 4, h.version);
+    field::write::<u64>(out, at + 6, h.next);
 }
 
 pub fn read_head(s: &[u8], at: usize) -> Head
@@ -98,16 +98,16 @@ pub fn read_head(s: &[u8], at: usize) -> Head
     ensures { result ≡ head_at s.now at }
 {
     Head {
-        number: field::read2(s, at),
-        count: field::read2(s, at + 2),
-        version: field::read2(s, at + 4),
-        next: field::read8(s, at + 6),
+        number: field::read::<u16>(s, at),
+        count: field::read::<u16>(s, at + 2),
+        version: field::read::<u16>(s, at + 4),
+        next: field::read::<u64>(s, at + 6),
     }
 }
 
+#[tactic(auto, unfolding(crate::specs::Block::same_head))]
 pub fn same_head(g: Head, h: Head) -> bool
     ensures { result ≡ same_head g h }
 {
-    (g.number == h.number)
-        & ((g.count == h.count) & ((g.version == h.version) & (g.next == h.next)))
+    g == h
 }

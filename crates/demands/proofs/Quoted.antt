@@ -11,7 +11,7 @@ use Rattle.message.specs.Message as messages
 use Rattle.message.specs.Message.{read_of}
 use Rattle.message.specs.declared.LongNumbers.{LongNumbers}
 use Rattle.message.specs.declared.Message.{Message}
-use Rattle.message.specs.declared.Price.TheVariants.{None}
+use Rattle.std.specs.Prelude.{None}
 use Rattle.message.specs.declared.Side.{Side}
 use Rattle.message.specs.declared.Texts.{Texts}
 use Rattle.message.specs.declared.Answer as answers

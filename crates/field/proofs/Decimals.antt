@@ -11,8 +11,8 @@ use borrow.Author.Tests.{le-leb, leb-true, lt-ltb, le-ltb, eqb-true, eqb-false, 
 use lib.Dec.{leb, ltb, eqb, lit<}
 use lib.ListN.{length, take, drop, get_or, set, replicate, length-append, length-map, length-replicate, take-append-drop, length-drop}
 use lib.Seq.{take-append_seam, drop-append_seam, length-take-le}
-use Rattle.field.specs.declared.decimal.Number.{Number}
-use Rattle.field.specs.declared.decimal.Number.TheVariants.{Is, Bad}
+use Rattle.std.specs.Prelude.{Option}
+use Rattle.std.specs.Prelude.{Some, None}
 use Rattle.field.specs.Bytes.{part, overlay, value, digits, Digits}
 use Rattle.field.specs.Limits.{highest_number}
 use Rattle.field.specs.Text.{every, leading, is_space, is_digit}
@@ -55,11 +55,11 @@ accepted cs = begins_with_non_zero cs && every is_digit cs && leb (decimal cs) h
 not-both : (b : Bool) → b ≡ false → b ≡ true → ⊥
 not-both b f t = let z : ◌≡◌ {A = Bool} true false = cc in let y : ◌≡◌ {A = ℕ} 0 1 = cc in omega arith
 
-refuses : (cs : List ℕ) → (accepted cs ≡ true → ⊥) → Bad ≡ number_of cs
+refuses : (cs : List ℕ) → (accepted cs ≡ true → ⊥) → None ≡ number_of cs
 unfolding number_of
 refuses cs h = by (accepted cs) refl
   where
-    by : (b : Bool) → accepted cs ≡ b → Bad ≡ cond b (Is (decimal cs)) Bad
+    by : (b : Bool) → accepted cs ≡ b → None ≡ cond b (Some (decimal cs)) None
     by true e = absurd (h e)
     by false e = refl
 
@@ -69,11 +69,11 @@ pub record Written (cs : List ℕ) (v : ℕ) : Type 0 where
   pub most : v ≤ highest_number
   pub is : v ≡ decimal cs
 
-pub number-written : (cs : List ℕ) (v : ℕ) → number_of cs ≡ Is v → Written cs v
+pub number-written : (cs : List ℕ) (v : ℕ) → number_of cs ≡ Some v → Written cs v
 unfolding number_of
 number-written cs v = by (accepted cs) refl
   where
-    by : (b : Bool) → accepted cs ≡ b → cond b (Is (decimal cs)) Bad ≡ Is v → Written cs v
+    by : (b : Bool) → accepted cs ≡ b → cond b (Some (decimal cs)) None ≡ Some v → Written cs v
     by true e i =
         let w : v ≡ decimal cs = cc in
         let two : begins_with_non_zero cs && every is_digit cs ≡ true = both_left (begins_with_non_zero cs && every is_digit cs) (leb (decimal cs) highest_number) e in
@@ -85,7 +85,7 @@ number-written cs v = by (accepted cs) refl
         }
     by false e i = let z : ◌≡◌ {A = ℕ} 0 1 = cc in absurd (omega arith)
 
-pub written-number : {cs : List ℕ} {v : ℕ} → Written cs v → number_of cs ≡ Is v
+pub written-number : {cs : List ℕ} {v : ℕ} → Written cs v → number_of cs ≡ Some v
 unfolding number_of
 written-number {cs} {v} w =
     let l : decimal cs ≤ highest_number = rw (← w.is) w.most in
@@ -216,7 +216,7 @@ chars-first n v a b =
     rw (ne_eqb (48 + v / 10 ^ n % 10) 48 (λ f. omega arith))
 
 -- THE ROUND TRIPS OF A NUMBER: its characters write it, and characters that write a number are that number's
-pub number-chars : (v : ℕ) → 0 < v → v ≤ highest_number → number_of (chars v) ≡ Is v
+pub number-chars : (v : ℕ) → 0 < v → v ≤ highest_number → number_of (chars v) ≡ Some v
 unfolding chars
 number-chars v k h =
     let n = (counted v k).0 in
@@ -240,10 +240,10 @@ first-counts (c ∷ cs) f a =
     (rw (length-map cs (λ x. x - 48)) (omega (arith, mul-le-mul_right {m = 1} {n = c - 48} (10 ^ length cs) (omega arith))))
     (rw length-map at (value-below 10 (lit< tt) (map (λ x. x - 48) (c ∷ cs)) (digits-below (c ∷ cs) a)))
 
-pub count-number : (cs : List ℕ) (v : ℕ) → number_of cs ≡ Is v → digit_count v ≡ length cs
+pub count-number : (cs : List ℕ) (v : ℕ) → number_of cs ≡ Some v → digit_count v ≡ length cs
 count-number cs v e = let w = number-written cs v e in ap digit_count w.is ∙ first-counts cs w.first w.all
 
-pub chars-number : (cs : List ℕ) (v : ℕ) → number_of cs ≡ Is v → chars v ≡ cs
+pub chars-number : (cs : List ℕ) (v : ℕ) → number_of cs ≡ Some v → chars v ≡ cs
 unfolding chars digit_chars decimal
 chars-number cs v e =
     let w = number-written cs v e in
@@ -254,7 +254,7 @@ chars-number cs v e =
 -- ---- a number between spaces
 
 -- no space stands where a number's characters begin
-no-space : (cs : List ℕ) (v : ℕ) → number_of cs ≡ Is v → leading is_space cs ≡ 0
+no-space : (cs : List ℕ) (v : ℕ) → number_of cs ≡ Some v → leading is_space cs ≡ 0
 unfolding leading every
 no-space [] v e = refl
 no-space (c ∷ cs) v e =
@@ -270,7 +270,7 @@ unfolding spaces_then_chars chars
 after-length n v h = rw (length-append, chars-length, length-replicate) (omega arith)
 
 -- THE ROUND TRIPS OF DIGITS THEN SPACES
-pub before_of : (n v : ℕ) → 0 < v → v ≤ highest_number → number_before_spaces (chars_then_spaces n v) ≡ Is v
+pub before_of : (n v : ℕ) → 0 < v → v ≤ highest_number → number_before_spaces (chars_then_spaces n v) ≡ Some v
 unfolding number_before_spaces chars_then_spaces
 before_of n v k h =
     let m : ℕ = n - digit_count v in
@@ -285,14 +285,14 @@ before_of n v k h =
     )
     (number-chars v k h)
 
-pub of-before : (cs : List ℕ) (v : ℕ) → number_before_spaces cs ≡ Is v → chars_then_spaces (length cs) v ≡ cs
+pub of-before : (cs : List ℕ) (v : ℕ) → number_before_spaces cs ≡ Some v → chars_then_spaces (length cs) v ≡ cs
 unfolding number_before_spaces chars_then_spaces
 of-before cs v = by (every is_space (drop n cs)) refl
   where
     n : ℕ
     n = leading is_digit cs
 
-    by : (b : Bool) → every is_space (drop n cs) ≡ b → cond b (number_of (take n cs)) Bad ≡ Is v
+    by : (b : Bool) → every is_space (drop n cs) ≡ b → cond b (number_of (take n cs)) None ≡ Some v
         → chars v ++ replicate (length cs - digit_count v) 32 ≡ cs
     by true s e =
         let d : digit_count v ≡ n = count-number (take n cs) v e ∙ length-take-le n cs (leading_le is_digit cs) in
@@ -301,7 +301,7 @@ of-before cs v = by (every is_space (drop n cs)) refl
     by false s e = let z : ◌≡◌ {A = ℕ} 0 1 = cc in absurd (omega arith)
 
 -- THE ROUND TRIPS OF SPACES THEN DIGITS
-pub after-of : (n v : ℕ) → 0 < v → v ≤ highest_number → number_after_spaces (spaces_then_chars n v) ≡ Is v
+pub after-of : (n v : ℕ) → 0 < v → v ≤ highest_number → number_after_spaces (spaces_then_chars n v) ≡ Some v
 unfolding number_after_spaces spaces_then_chars
 after-of n v k h =
     let m : ℕ = n - digit_count v in
@@ -310,7 +310,7 @@ after-of n v k h =
     = leading-append is_space sp (chars v) (every-replicate is_space m 32 refl) ∙ rw (no-space (chars v) v (number-chars v k h)) (add-zero (length sp)) in
     rw (e, drop-append_seam sp (chars v)) (number-chars v k h)
 
-pub of-after : (cs : List ℕ) (v : ℕ) → number_after_spaces cs ≡ Is v → spaces_then_chars (length cs) v ≡ cs
+pub of-after : (cs : List ℕ) (v : ℕ) → number_after_spaces cs ≡ Some v → spaces_then_chars (length cs) v ≡ cs
 unfolding number_after_spaces spaces_then_chars
 of-after cs v e =
     let n : ℕ = leading is_space cs in
@@ -330,17 +330,17 @@ unfolding every
 digits-none xs at = rw part_none
 
 module _ (xs : List ℕ) (at n : ℕ) (fits : at + n ≤ length xs) where
-  pub number-empty : n ≡ 0 → Bad ≡ number_of (part xs at n)
+  pub number-empty : n ≡ 0 → None ≡ number_of (part xs at n)
   unfolding number_of begins_with_non_zero
   number-empty e = rw (e, part_none)
 
-  pub number-zero : (n ≡ 0 → ⊥) → get_or xs at 0 ≡ 48 → Bad ≡ number_of (part xs at n)
+  pub number-zero : (n ≡ 0 → ⊥) → get_or xs at 0 ≡ 48 → None ≡ number_of (part xs at n)
   unfolding number_of begins_with_non_zero
   number-zero some e = rw (part-cons xs at n (omega (arith, some)) (omega (arith, some)), e)
 
   -- a turn of the loop: the character at k is no digit, or the number goes on
   module _ (k : ℕ) (more : k < n) where
-    no_digit : is_digit (get_or xs (at + k) 0) ≡ false → Bad ≡ number_of (part xs at n)
+    no_digit : is_digit (get_or xs (at + k) 0) ≡ false → None ≡ number_of (part xs at n)
     no_digit e =
         refuses (part xs at n)
         (λ t. not-both (is_digit (get_or xs (at + k) 0)) e
@@ -349,7 +349,7 @@ module _ (xs : List ℕ) (at n : ℕ) (fits : at + n ≤ length xs) where
         (both_right (begins_with_non_zero (part xs at n)) (every is_digit (part xs at n)) (both_left _ _ t))
         k (rw (part_length xs at n fits) more))))
 
-    pub number-low : get_or xs (at + k) 0 < 48 → Bad ≡ number_of (part xs at n)
+    pub number-low : get_or xs (at + k) 0 < 48 → None ≡ number_of (part xs at n)
     number-low l = no_digit (within_low 48 57 (get_or xs (at + k) 0) l)
 
     pub digits_more : every is_digit (part xs at k) ≡ true → 48 ≤ get_or xs (at + k) 0 → get_or xs (at + k) 0 ≤ 57
@@ -362,7 +362,7 @@ module _ (xs : List ℕ) (at n : ℕ) (fits : at + n ≤ length xs) where
     value-more v e =
         rw (part-more xs at k (omega arith), decimal-append (part xs at k) (get_or xs (at + k) 0 ∷ []), decimal_digit (get_or xs (at + k) 0), e)
 
-    pub number_past : (v : ℕ) → v ≡ decimal (part xs at (k + 1)) → highest_number < v → Bad ≡ number_of (part xs at n)
+    pub number_past : (v : ℕ) → v ≡ decimal (part xs at (k + 1)) → highest_number < v → None ≡ number_of (part xs at n)
     number_past v e h =
         let j : k + 1 + (n - (k + 1)) ≡ n = omega arith in
         let g : decimal (part xs at (k + 1)) ≤ decimal (part xs at n)
@@ -370,7 +370,7 @@ module _ (xs : List ℕ) (at n : ℕ) (fits : at + n ≤ length xs) where
         refuses (part xs at n) (λ t. omega (arith, leb-true (decimal (part xs at n)) highest_number (both_right (begins_with_non_zero (part xs at n) && every is_digit (part xs at n)) _ t)))
 
   pub number-done : (v k : ℕ) → (n ≡ 0 → ⊥) → (get_or xs at 0 ≡ 48 → ⊥) → k ≤ n → n ≤ k → v ≤ highest_number → v ≡ decimal (part xs at k)
-      → every is_digit (part xs at k) ≡ true → Is v ≡ number_of (part xs at n)
+      → every is_digit (part xs at k) ≡ true → Some v ≡ number_of (part xs at n)
   unfolding begins_with_non_zero
   number-done v k some first l g h d a =
       let e : k ≡ n = omega arith in
@@ -382,7 +382,7 @@ module _ (xs : List ℕ) (at n : ℕ) (fits : at + n ≤ length xs) where
       }))
 
 module _ (xs : List ℕ) (at n k : ℕ) where
-  pub after-part : {r : Number} → k ≡ leading is_space (part xs at n) → k ≤ n → r ≡ number_of (part xs (at + k) (n - k)) → r ≡ number_after_spaces (part xs at n)
+  pub after-part : {r : Option ℕ} → k ≡ leading is_space (part xs at n) → k ≤ n → r ≡ number_of (part xs (at + k) (n - k)) → r ≡ number_after_spaces (part xs at n)
   unfolding number_after_spaces
   after-part {r} e h t = t ∙ ap number_of (sym (part-drop xs at n k h)) ∙ ap (λ (j : ℕ). number_of (drop j (part xs at n))) e
 
@@ -390,11 +390,11 @@ module _ (xs : List ℕ) (at n k : ℕ) where
     spaces-follow : every is_space (drop (leading is_digit (part xs at n)) (part xs at n)) ≡ b
     spaces-follow = rw (← e, part-drop xs at n k h) (sym s)
 
-    pub before-part : {r : Number} → b ≡ true → r ≡ number_of (part xs at k) → r ≡ number_before_spaces (part xs at n)
+    pub before-part : {r : Option ℕ} → b ≡ true → r ≡ number_of (part xs at k) → r ≡ number_before_spaces (part xs at n)
     unfolding number_before_spaces
     before-part {r} f t = rw (spaces-follow, f, ← e, part-take xs at n k h) t
 
-    pub no-before-part : b ≡ false → Bad ≡ number_before_spaces (part xs at n)
+    pub no-before-part : b ≡ false → None ≡ number_before_spaces (part xs at n)
     unfolding number_before_spaces
     no-before-part f = rw (spaces-follow, f)
 
@@ -420,7 +420,7 @@ module _ (xs : List ℕ) (at n k : ℕ) (fits : at + n ≤ length xs) where
     leads-all l = leads (leading_end is_digit xs at n k l)
 
   -- a character above the digits is no space
-  pub before-high : k < n → every is_digit (part xs at k) ≡ true → 57 < get_or xs (at + k) 0 → Bad ≡ number_before_spaces (part xs at n)
+  pub before-high : k < n → every is_digit (part xs at k) ≡ true → 57 < get_or xs (at + k) 0 → None ≡ number_before_spaces (part xs at n)
   unfolding every
   before-high l d c =
       let z : leading is_digit (part xs (at + k) (n - k)) ≡ 0 = leading-stop is_digit xs at n k l fits (within-high 48 57 (get_or xs (at + k) 0) c) in
@@ -428,35 +428,35 @@ module _ (xs : List ℕ) (at n k : ℕ) (fits : at + n ≤ length xs) where
       {b = false} (rw (rest-cons xs at n k l fits, within-high 32 32 (get_or xs (at + k) 0) (omega arith))) refl
 
   -- whatever follows digits that write no number
-  before-bad : k ≡ leading is_digit (part xs at n) → k ≤ n → Bad ≡ number_of (part xs at k) → Bad ≡ number_before_spaces (part xs at n)
+  before-bad : k ≡ leading is_digit (part xs at n) → k ≤ n → None ≡ number_of (part xs at k) → None ≡ number_before_spaces (part xs at n)
   before-bad e h p = by (every is_space (part xs (at + k) (n - k))) refl
     where
-      by : (b : Bool) → b ≡ every is_space (part xs (at + k) (n - k)) → Bad ≡ number_before_spaces (part xs at n)
+      by : (b : Bool) → b ≡ every is_space (part xs (at + k) (n - k)) → None ≡ number_before_spaces (part xs at n)
       by true s = before-part xs at n k e h s refl p
       by false s = no-before-part xs at n k e h s refl
 
   module _ {v : ℕ} (t : Leads (part xs at n) k v) (h : k ≤ n) where
-    pub closed_none : k ≡ 0 → Bad ≡ number_before_spaces (part xs at n)
+    pub closed_none : k ≡ 0 → None ≡ number_before_spaces (part xs at n)
     closed_none e = before-bad t.count h (number-empty xs at k (omega arith) e)
 
     module _ (some : k ≡ 0 → ⊥) where
-      pub closed-zero : get_or xs at 0 ≡ 48 → Bad ≡ number_before_spaces (part xs at n)
+      pub closed-zero : get_or xs at 0 ≡ 48 → None ≡ number_before_spaces (part xs at n)
       closed-zero e = before-bad t.count h (number-zero xs at k (omega arith) some e)
 
       module _ (first : get_or xs at 0 ≡ 48 → ⊥) {b : Bool} (s : b ≡ every is_space (part xs (at + k) (n - k))) where
-        pub closed-yes : b ≡ true → Is v ≡ number_before_spaces (part xs at n)
+        pub closed-yes : b ≡ true → Some v ≡ number_before_spaces (part xs at n)
         closed-yes y =
             let d : every is_digit (part xs at k) ≡ true
             = rw (← t.count, part-take xs at n k h) at (every-leading is_digit (part xs at n)) in
             before-part xs at n k t.count h s y
             (number-done xs at k (omega arith) v k some first (omega arith) (omega arith) t.most (t.is ∙ ap decimal (part-take xs at n k h)) d)
 
-        pub closed-no : b ≡ false → Bad ≡ number_before_spaces (part xs at n)
+        pub closed-no : b ≡ false → None ≡ number_before_spaces (part xs at n)
         closed-no y = no-before-part xs at n k t.count h s y
 
 -- digits that write too much, whatever follows
 pub before-past : (xs : List ℕ) (at n k : ℕ) → at + n ≤ length xs → k < n → (v : ℕ) → v ≡ decimal (part xs at (k + 1)) → every is_digit (part xs at (k + 1)) ≡ true → highest_number < v
-    → Bad ≡ number_before_spaces (part xs at n)
+    → None ≡ number_before_spaces (part xs at n)
 before-past xs at n k fits l v e d h =
     let m : ℕ = leading is_digit (part xs at n) in
     let more : m ≡ k + 1 + leading is_digit (part xs (at + (k + 1)) (n - (k + 1))) = digits-lead xs at n (k + 1) fits (omega arith) d in
@@ -466,7 +466,7 @@ before-past xs at n k fits l v e d h =
 -- ---- digits alone
 
 module _ (xs : List ℕ) (at n : ℕ) (fits : at + n ≤ length xs) (some : n ≡ 0 → ⊥) where
-  pub number-spaced : get_or xs (at + (n - 1)) 0 ≡ 32 → Bad ≡ number_of (part xs at n)
+  pub number-spaced : get_or xs (at + (n - 1)) 0 ≡ 32 → None ≡ number_of (part xs at n)
   number-spaced e = number-low xs at n fits (n - 1) (omega (arith, some)) (omega arith)
 
   module _ (last : get_or xs (at + (n - 1)) 0 ≡ 32 → ⊥) where
@@ -486,7 +486,7 @@ module _ (xs : List ℕ) (at n : ℕ) (fits : at + n ≤ length xs) (some : n �
         let v : ℕ = get_or xs (at + (n - 1)) 0 in
         last (omega (arith, leb-true 32 v (both_left (leb 32 v) (leb v 32) e), leb-true v 32 (both_right (leb 32 v) (leb v 32) e)))
 
-    not-all : m < n → Bad ≡ number_of (part xs at n)
+    not-all : m < n → None ≡ number_of (part xs at n)
     unfolding m
     not-all l =
         refuses (part xs at n)
@@ -495,7 +495,7 @@ module _ (xs : List ℕ) (at n : ℕ) (fits : at + n ≤ length xs) (some : n �
         let e : m ≡ length (part xs at n) = eqb-true m (length (part xs at n)) (leading-every is_digit (part xs at n) ∙ all) in
         omega (arith, part_length xs at n fits))
 
-    pub number-unspaced : {r : Number} → r ≡ number_before_spaces (part xs at n) → r ≡ number_of (part xs at n)
+    pub number-unspaced : {r : Option ℕ} → r ≡ number_before_spaces (part xs at n) → r ≡ number_of (part xs at n)
     unfolding m every
     number-unspaced {r} p = by (dec_lt m n) (every is_space (part xs (at + m) (n - m))) refl
       where

@@ -3,7 +3,7 @@
 use mathlib.Core.Path.{◌≡◌, refl}
 use mathlib.Core.Bool.{true, false}
 use mathlib.Core.List.{[], ◌∷◌}
-use Rattle.field.specs.declared.decimal.Number.TheVariants.{Is, Bad}
+use Rattle.std.specs.Prelude.{Some, None}
 use Rattle.field.specs.Bytes.{part, overlay, be, bytes_be, value, digits, turned}
 use Rattle.field.specs.Text.{every, leading, is_text, begins_with_non_space, only_spaces_after_space}
 use Rattle.field.specs.Decimal.{decimal, begins_with_non_zero, number_of, number_after_spaces, number_before_spaces, digit_chars, digit_count_in, digit_count, chars, chars_then_spaces}
@@ -32,15 +32,15 @@ unfolding is_text begins_with_non_space only_spaces_after_space every
 space-behind = refl
 
 -- " 42" and "42 " are 42; "042" is no number
-login-number : number_after_spaces (32 ∷ 52 ∷ 50 ∷ []) ≡ Is 42
+login-number : number_after_spaces (32 ∷ 52 ∷ 50 ∷ []) ≡ Some 42
 unfolding number_after_spaces number_of begins_with_non_zero decimal value every leading
 login-number = refl
 
-live-number : number_before_spaces (52 ∷ 50 ∷ 32 ∷ []) ≡ Is 42
+live-number : number_before_spaces (52 ∷ 50 ∷ 32 ∷ []) ≡ Some 42
 unfolding number_before_spaces number_of begins_with_non_zero decimal value every leading
 live-number = refl
 
-leading-zero : number_before_spaces (48 ∷ 52 ∷ 50 ∷ []) ≡ Bad
+leading-zero : number_before_spaces (48 ∷ 52 ∷ 50 ∷ []) ≡ None
 unfolding number_before_spaces number_of begins_with_non_zero decimal value every leading
 leading-zero = refl
 

@@ -8,3 +8,4 @@ pub mod Runs
 pub mod Decimals
 mod Examples
 pub mod Rises
+pub mod Leads

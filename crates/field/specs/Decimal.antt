@@ -1,8 +1,8 @@
 -- Numbers in characters: what characters write, and the characters that write a number.
 -- Assumes nothing.
 use Rattle.std.specs.Prelude.{ℕ, zero, suc, ◌+◌, ◌-◌, ◌/◌, ◌≤◌, ◌≡◌, Bool, true, false, ◌&&◌, cond, not, List, [], ◌∷◌, ◌++◌, map, eqb, leb, ltb, take, drop, replicate}
-use Rattle.field.specs.declared.decimal.Number.{Number}
-use Rattle.field.specs.declared.decimal.Number.TheVariants.{Is, Bad}
+use Rattle.std.specs.Prelude.{Option}
+use Rattle.std.specs.Prelude.{Some, None}
 use Rattle.field.specs.Bytes.{value, digits}
 use Rattle.field.specs.Limits.{highest_number}
 use Rattle.field.specs.Text.{every, leading, is_space, is_digit}
@@ -18,18 +18,18 @@ begins_with_non_zero [] = false
 begins_with_non_zero (c ∷ cs) = not (eqb c 48)
 
 -- a number in characters: digits, the first not zero, that write at most 10 ^ 12, and so at least 1
-unfoldable pub number_of : List ℕ → Number
-number_of cs = cond (begins_with_non_zero cs && every is_digit cs && leb (decimal cs) highest_number) (Is (decimal cs)) Bad
+unfoldable pub number_of : List ℕ → Option ℕ
+number_of cs = cond (begins_with_non_zero cs && every is_digit cs && leb (decimal cs) highest_number) (Some (decimal cs)) None
 
 -- spaces, then digits
-unfoldable pub number_after_spaces : List ℕ → Number
+unfoldable pub number_after_spaces : List ℕ → Option ℕ
 number_after_spaces cs = number_of (drop (leading is_space cs) cs)
 
 -- digits, then spaces
-unfoldable pub number_before_spaces : List ℕ → Number
+unfoldable pub number_before_spaces : List ℕ → Option ℕ
 number_before_spaces cs =
     let n = leading is_digit cs in
-    cond (every is_space (drop n cs)) (number_of (take n cs)) Bad
+    cond (every is_space (drop n cs)) (number_of (take n cs)) None
 
 -- the digits in front are k, and write v
 pub record Leads (cs : List ℕ) (k v : ℕ) : Type 0 where

@@ -6,69 +6,60 @@ ghost use Rattle.field.specs.Decimal.{Leads, number_of, number_after_spaces, num
 use crate::limits::HIGHEST_NUMBER;
 use crate::text;
 
-// What characters write: a number from 1 to 10^12, or none.
-#[derive(Clone, Copy)]
-pub enum Number {
-    Is(u64),
-    Bad,
-}
-
 // What follows the first k of n characters, which are digits and write v: spaces alone.
-fn closed_number(s: &[u8], at: usize, n: usize, k: usize, v: u64) -> Number
+fn closed_number(s: &[u8], at: usize, n: usize, k: usize, v: u64) -> Option<u64>
     requires { (at + n ≤ length s.now) × (k ≤ n) × Leads (part s.now at n) k v }
     ensures { result ≡ number_before_spaces (part s.now at n) }
 {
     if k == 0 {
-        return Number::Bad;
+        return None;
     }
     if s[at] == 48 {
-        return Number::Bad;
+        return None;
     }
     if text::only(s, at + k, n - k, b' ') {
-        return Number::Is(v);
+        return Some(v);
     }
-    Number::Bad
+    None
 }
 
-pub fn number_before_spaces(s: &[u8], at: usize, n: usize) -> Number
+pub fn number_before_spaces(s: &[u8], at: usize, n: usize) -> Option<u64>
     requires { at + n ≤ length s.now }
     ensures { result ≡ number_before_spaces (part s.now at n) }
 {
     let mut v: u64 = 0;
-    let mut k = 0;
-    while k < n {
+    for k in 0..n {
         let c = s[at + k];
         if c < 48 {
             return closed_number(s, at, n, k, v);
         }
         if 57 < c {
-            return Number::Bad;
+            return None;
         }
         let d = c - 48;
         v = v * 10 + d as u64;
         if HIGHEST_NUMBER < v {
-            return Number::Bad;
+            return None;
         }
-        k += 1;
     }
-    closed_number(s, at, n, k, v)
+    closed_number(s, at, n, n, v)
 }
 
 // The number that the n bytes write with digits alone, from `at` on: digits and then spaces, of which there are none.
-fn unpadded_number(s: &[u8], at: usize, n: usize) -> Number
+fn unpadded_number(s: &[u8], at: usize, n: usize) -> Option<u64>
     requires { at + n ≤ length s.now }
     ensures { result ≡ number_of (part s.now at n) }
 {
     if n == 0 {
-        return Number::Bad;
+        return None;
     }
     if s[at + (n - 1)] == b' ' {
-        return Number::Bad;
+        return None;
     }
     number_before_spaces(s, at, n)
 }
 
-pub fn number_after_spaces(s: &[u8], at: usize, n: usize) -> Number
+pub fn number_after_spaces(s: &[u8], at: usize, n: usize) -> Option<u64>
     requires { at + n ≤ length s.now }
     ensures { result ≡ number_after_spaces (part s.now at n) }
 {
@@ -94,9 +85,7 @@ pub fn write_digits(out: &mut [u8], at: usize, n: usize, v: u64)
     ensures { out.new ≡ overlay out.old at (digit_chars n v) }
 {
     let mut rest = v;
-    let mut i = n;
-    while 0 < i {
-        i -= 1;
+    for i in (0..n).rev() {
         out[at + i] = 48 + (rest % 10) as u8;
         rest /= 10;
     }

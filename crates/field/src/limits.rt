@@ -3,6 +3,8 @@ ghost use Rattle.std.specs.Prelude.{◌≡◌, ◌+◌, ◌≤◌, length};
 ghost use Rattle.field.specs.Bytes.{part, be};
 ghost use Rattle.field.specs.Limits.{time_in_range, number_in_range, price_in_range, ten_thousandths};
 
+use crate::Number;
+
 pub const LATEST_TIME: u64 = 86399999999999;
 
 // Its two halves of four bytes: the latest time is LATEST_HIGH * 2^32 + LATEST_LOW.
@@ -43,14 +45,14 @@ pub fn time_keeps(s: &[u8], at: usize) -> bool
     requires { at + 8 ≤ length s.now }
     ensures { result ≡ time_in_range (be (part s.now at 8)) }
 {
-    let high = crate::read4(s, at);
+    let high = u32::read(s, at);
     if high < LATEST_HIGH {
         return true;
     }
     if LATEST_HIGH < high {
         return false;
     }
-    crate::read4(s, at + 4) <= LATEST_LOW
+    u32::read(s, at + 4) <= LATEST_LOW
 }
 
 // Is the price that stands at `at` in range? Its first byte says it.
@@ -58,5 +60,5 @@ pub fn price_keeps(s: &[u8], at: usize) -> bool
     requires { at + 4 ≤ length s.now }
     ensures { result ≡ price_in_range (be (part s.now at 4)) }
 {
-    crate::read1(s, at) < 128
+    u8::read(s, at) < 128
 }

@@ -1,25 +1,22 @@
 // Runs of characters, and texts padded with spaces.
-ghost use Rattle.std.specs.Prelude.{◌≡◌, ◌+◌, ◌≤◌, length};
+ghost use Rattle.std.specs.Prelude.{◌≡◌, ◌+◌, ◌≤◌, length, not};
+ghost use Rattle.std.specs.List.{position_from};
 ghost use Rattle.field.specs.Bytes.{part};
 ghost use Rattle.field.specs.Text.{within, every, leading, is_text};
+
+// The place of the first byte that does not lie from low to high.
+fn first_outside(s: &[u8], low: u8, high: u8) -> Option<usize>
+    ensures { result ≡ position_from (λ c. not (within low high c)) 0 s.now }
+{
+    s.iter().position(|c| *c < low || high < *c)
+}
 
 // How many of the n bytes from `at` on, counted from the first, lie from low to high.
 pub fn run(s: &[u8], at: usize, n: usize, low: u8, high: u8) -> usize
     requires { at + n ≤ length s.now }
     ensures { (result ≡ leading (within low high) (part s.now at n)) × (result ≤ n) }
 {
-    let mut k = 0;
-    while k < n {
-        let c = s[at + k];
-        if c < low {
-            return k;
-        }
-        if high < c {
-            return k;
-        }
-        k += 1;
-    }
-    k
+    first_outside(&s[at..at + n], low, high).unwrap_or(n)
 }
 
 // Are the n bytes from `at` on all this one? Without a branch, so that several are compared at once.
@@ -28,10 +25,8 @@ pub fn only(s: &[u8], at: usize, n: usize, byte: u8) -> bool
     ensures { result ≡ every (within byte byte) (part s.now at n) }
 {
     let mut same = true;
-    let mut k = 0;
-    while k < n {
-        same = same & (s[at + k] == byte);
-        k += 1;
+    for k in 0..n {
+        same &= s[at + k] == byte;
     }
     same
 }

@@ -53,8 +53,8 @@ pub fn is_handle(bytes: &[u8]) -> bool
     if bytes.len() != HANDLE_SIZE {
         return false;
     }
-    (field::read1(bytes, KNOWN) <= 1)
-        & ((field::read1(bytes, LOGGED) <= 1) & (field::read1(bytes, ENDED) <= 1))
+    (field::read::<u8>(bytes, KNOWN) <= 1)
+        & ((field::read::<u8>(bytes, LOGGED) <= 1) & (field::read::<u8>(bytes, ENDED) <= 1))
 }
 
 // The head of a handle.
@@ -66,21 +66,21 @@ pub fn read_head(bytes: &[u8]) -> Head
     field::copy(bytes, SESSION, packet::SESSION_SIZE, &mut session, 0);
     let line = Line {
         session,
-        known: field::read1(bytes, KNOWN) == 1,
-        logged: field::read1(bytes, LOGGED) == 1,
-        next: field::read8(bytes, NEXT),
+        known: field::read::<u8>(bytes, KNOWN) == 1,
+        logged: field::read::<u8>(bytes, LOGGED) == 1,
+        next: field::read::<u64>(bytes, NEXT),
     };
     let board = Board {
-        rows: field::read8(bytes, ROWS) as usize,
-        event: field::read1(bytes, EVENT),
-        live: field::read8(bytes, LIVE),
+        rows: field::read::<u64>(bytes, ROWS) as usize,
+        event: field::read::<u8>(bytes, EVENT),
+        live: field::read::<u64>(bytes, LIVE),
     };
     Head {
         line,
         board,
-        ended: field::read1(bytes, ENDED) == 1,
-        refusal: field::read1(bytes, REFUSAL),
-        used: field::read8(bytes, USED) as usize,
+        ended: field::read::<u8>(bytes, ENDED) == 1,
+        refusal: field::read::<u8>(bytes, REFUSAL),
+        used: field::read::<u64>(bytes, USED) as usize,
     }
 }
 
@@ -95,10 +95,10 @@ fn put_numbers(h: Head, out: &mut [u8])
     requires { length out.old ≡ handle_size }
     ensures { out.new ≡ overlay out.old 0 (number_bytes h) }
 {
-    field::write8(out, NEXT, h.line.next);
-    field::write8(out, LIVE, h.board.live);
-    field::write8(out, ROWS, h.board.rows as u64);
-    field::write8(out, USED, h.used as u64);
+    field::write::<u64>(out, NEXT, h.line.next);
+    field::write::<u64>(out, LIVE, h.board.live);
+    field::write::<u64>(out, ROWS, h.board.rows as u64);
+    field::write::<u64>(out, USED, h.used as u64);
 }
 
 // The five marks of a byte each behind the session.
@@ -106,11 +106,11 @@ fn put_marks(h: Head, out: &mut [u8])
     requires { length out.old ≡ handle_size }
     ensures { out.new ≡ overlay out.old 42 (mark_bytes h) }
 {
-    field::write1(out, KNOWN, flag(h.line.known));
-    field::write1(out, LOGGED, flag(h.line.logged));
-    field::write1(out, ENDED, flag(h.ended));
-    field::write1(out, REFUSAL, h.refusal);
-    field::write1(out, EVENT, h.board.event);
+    field::write::<u8>(out, KNOWN, flag(h.line.known));
+    field::write::<u8>(out, LOGGED, flag(h.line.logged));
+    field::write::<u8>(out, ENDED, flag(h.ended));
+    field::write::<u8>(out, REFUSAL, h.refusal);
+    field::write::<u8>(out, EVENT, h.board.event);
 }
 
 // Lays a head over the front of a handle; the places of held bytes stay.
@@ -131,42 +131,42 @@ pub fn next(bytes: &[u8]) -> u64
     requires { length bytes.now ≡ handle_size }
     ensures { result ≡ (head_of bytes.now).line.next }
 {
-    field::read8(bytes, NEXT)
+    field::read::<u64>(bytes, NEXT)
 }
 
 pub fn rows(bytes: &[u8]) -> usize
     requires { length bytes.now ≡ handle_size }
     ensures { result ≡ (head_of bytes.now).board.rows }
 {
-    field::read8(bytes, ROWS) as usize
+    field::read::<u64>(bytes, ROWS) as usize
 }
 
 pub fn used(bytes: &[u8]) -> usize
     requires { length bytes.now ≡ handle_size }
     ensures { result ≡ (head_of bytes.now).used }
 {
-    field::read8(bytes, USED) as usize
+    field::read::<u64>(bytes, USED) as usize
 }
 
 pub fn logged(bytes: &[u8]) -> bool
     requires { length bytes.now ≡ handle_size }
     ensures { result ≡ (head_of bytes.now).line.logged }
 {
-    field::read1(bytes, LOGGED) == 1
+    field::read::<u8>(bytes, LOGGED) == 1
 }
 
 pub fn ended(bytes: &[u8]) -> bool
     requires { length bytes.now ≡ handle_size }
     ensures { result ≡ (head_of bytes.now).ended }
 {
-    field::read1(bytes, ENDED) == 1
+    field::read::<u8>(bytes, ENDED) == 1
 }
 
 pub fn refusal(bytes: &[u8]) -> u8
     requires { length bytes.now ≡ handle_size }
     ensures { result ≡ (head_of bytes.now).refusal }
 {
-    field::read1(bytes, REFUSAL)
+    field::read::<u8>(bytes, REFUSAL)
 }
 
 // The next number and the session, which a login tells, to the front of `out`: one load and one store for the number.
@@ -174,7 +174,7 @@ pub fn copy_login(bytes: &[u8], out: &mut [u8])
     requires { (length bytes.now ≡ handle_size) × (18 ≤ length out.old) }
     ensures { out.new ≡ overlay out.old 0 (bytes_be 8 (head_of bytes.now).line.next ++ (head_of bytes.now).line.session) }
 {
-    field::copy8(bytes, NEXT, out, 0);
+    field::carry::<8>(bytes, NEXT, out, 0);
     field::copy(bytes, SESSION, packet::SESSION_SIZE, out, 8);
 }
 
@@ -182,28 +182,28 @@ pub fn put_next(v: u64, out: &mut [u8])
     requires { length out.old ≡ handle_size }
     ensures { out.new ≡ with_field next_field v out.old }
 {
-    field::write8(out, NEXT, v);
+    field::write::<u64>(out, NEXT, v);
 }
 
 pub fn put_live(v: u64, out: &mut [u8])
     requires { length out.old ≡ handle_size }
     ensures { out.new ≡ with_field live_field v out.old }
 {
-    field::write8(out, LIVE, v);
+    field::write::<u64>(out, LIVE, v);
 }
 
 pub fn put_rows(v: usize, out: &mut [u8])
     requires { length out.old ≡ handle_size }
     ensures { out.new ≡ with_field rows_field v out.old }
 {
-    field::write8(out, ROWS, v as u64);
+    field::write::<u64>(out, ROWS, v as u64);
 }
 
 pub fn put_used(v: usize, out: &mut [u8])
     requires { length out.old ≡ handle_size }
     ensures { out.new ≡ with_field used_field v out.old }
 {
-    field::write8(out, USED, v as u64);
+    field::write::<u64>(out, USED, v as u64);
 }
 
 // The handle has ended.
@@ -211,19 +211,19 @@ pub fn put_ended(out: &mut [u8])
     requires { length out.old ≡ handle_size }
     ensures { out.new ≡ with_field ended_field 1 out.old }
 {
-    field::write1(out, ENDED, 1);
+    field::write::<u8>(out, ENDED, 1);
 }
 
 pub fn put_refusal(v: u8, out: &mut [u8])
     requires { length out.old ≡ handle_size }
     ensures { out.new ≡ with_field refusal_field v out.old }
 {
-    field::write1(out, REFUSAL, v);
+    field::write::<u8>(out, REFUSAL, v);
 }
 
 pub fn put_event(v: u8, out: &mut [u8])
     requires { length out.old ≡ handle_size }
     ensures { out.new ≡ with_field event_field v out.old }
 {
-    field::write1(out, EVENT, v);
+    field::write::<u8>(out, EVENT, v);
 }

@@ -29,8 +29,8 @@ use Rattle.image.specs.Save.{page_of, body_of, saved_block, blocks, image_in}
 use Rattle.image.specs.Restore.{count_of, length_keeps, checks_keep, head_keeps, heads_keep, facts_keep, slots_keep, contents_keep, version_of, verdict_in, rows_of}
 use Rattle.image.specs.declared.Refusal.{Refusal}
 use Rattle.image.specs.declared.Refusal.TheVariants.{BadLength, BadCheck, BadHead, BadContents}
-use Rattle.image.specs.declared.Verdict.{Verdict}
-use Rattle.image.specs.declared.Verdict.TheVariants.{Accepted, Refused}
+use Rattle.std.specs.Prelude.{Result}
+use Rattle.std.specs.Prelude.{Ok, Err}
 use Rattle.image.specs.declared.Wanted.{Wanted}
 use Rattle.image.proofs.Below.{below_at}
 use Rattle.image.proofs.Laid.{pages-length, pages-part}
@@ -41,9 +41,9 @@ use Rattle.image.proofs.Zeros.{cleared-own}
 
 -- ---- what acceptance says, test by test
 
-pub accepted-if : (b : Bool) (v : Verdict) (r : Refusal) → cond b v (Refused r) ≡ Accepted → (b ≡ true) × (v ≡ Accepted)
+pub accepted-if : (b : Bool) (v : Result (Unit {0}) Refusal) (r : Refusal) → cond b v (Err r) ≡ (Ok (tt {0})) → (b ≡ true) × (v ≡ (Ok (tt {0})))
 accepted-if true v r e = (refl, e)
-accepted-if false v r e = let z : Refused r ≡ Accepted = e in (cc, cc)
+accepted-if false v r e = let z : Err r ≡ (Ok (tt {0})) = e in (cc, cc)
 
 pub record Kept (image : List ℕ) : Type 0 where
   pub size : Long image
@@ -51,13 +51,13 @@ pub record Kept (image : List ℕ) : Type 0 where
   pub heads : heads_keep image (count_of image) (header_of image) ≡ true
   pub contents : contents_keep image (count_of image) (header_of image) ≡ true
 
-pub kept : (wanted : Wanted) (image : List ℕ) → verdict_in wanted image ≡ Accepted → Kept image × (welcome wanted (version_of image) ≡ true)
+pub kept : (wanted : Wanted) (image : List ℕ) → verdict_in wanted image ≡ (Ok (tt {0})) → Kept image × (welcome wanted (version_of image) ≡ true)
 unfolding verdict_in
 kept wanted image e =
     let a = accepted-if (length_keeps image) _ BadLength e in
     let b = accepted-if (checks_keep image (count_of image)) _ BadCheck a.1 in
     let c = accepted-if (heads_keep image (count_of image) (header_of image) && welcome wanted (version_of image)) _ BadHead b.1 in
-    let d = accepted-if (contents_keep image (count_of image) (header_of image)) Accepted BadContents c.1 in (
+    let d = accepted-if (contents_keep image (count_of image) (header_of image)) (Ok (tt {0})) BadContents c.1 in (
       record { size = long image a.0; checks = b.0; heads = both_left _ (welcome wanted (version_of image)) c.0; contents = d.0 },
       both_right (heads_keep image (count_of image) (header_of image)) _ c.0,
     )

@@ -27,7 +27,7 @@ use Rattle.image.specs.Header.{header_keeps, flag, session_bytes, board_bytes, f
 use Rattle.image.specs.Save.{cleared, page_of, body_of, saved_block, blocks, image_in, image_of}
 use Rattle.image.specs.Restore.{count_of, length_keeps, checks_keep, head_keeps, heads_keep, facts_keep, slots_keep, contents_keep, version_of, verdict_in, rows_of, renewed, memory_of}
 use Rattle.image.specs.declared.Header.{Header}
-use Rattle.image.specs.declared.Verdict.TheVariants.{Accepted}
+use Rattle.std.specs.Prelude.{Ok}
 use Rattle.image.specs.declared.Wanted.{Wanted}
 use Rattle.image.proofs.Below.{below_all}
 use Rattle.image.proofs.Walk.{rows-equal}
@@ -258,7 +258,7 @@ module _ (v : ℕ) (small : v < 256 ^ 2) (h : Header) (mem : List ℕ) (fit : He
         (zeros-pass (pages_for h.board.rows * body_size - row_at h.board.rows))
 
     -- THE IMAGE OF A TABLE IS ACCEPTED
-    pub image-accepted : (wanted : Wanted) → welcome wanted v ≡ true → verdict_in wanted (image_in v h mem) ≡ Accepted
+    pub image-accepted : (wanted : Wanted) → welcome wanted v ≡ true → verdict_in wanted (image_in v h mem) ≡ (Ok (tt {0}))
     unfolding verdict_in contents_keep
     image-accepted wanted w = rw (length-good, image-count, checks-good, header-back, heads-good, version-back, w, facts-back, good, slots-good)
 

@@ -32,9 +32,9 @@ use Rattle.image.specs.Moves.{moved_of}
 use Rattle.image.specs.Before.{Program, before_w208, before_w209, Former, table_size_of, most_blocks_of, is_table_of, widened, length_kept, head_kept, heads_kept, slots_kept, contents_kept, verdict_before, memory_before, restored_by_before, restore_before, within_limits_of, image_before, save_before}
 use Rattle.image.specs.declared.Header.{Header}
 use Rattle.image.specs.declared.Refusal.TheVariants.{Unfit, BadLength, BadCheck, BadHead, BadContents, ShortOutput}
-use Rattle.image.specs.declared.Saved.TheVariants.{Whole}
-use Rattle.image.specs.declared.Verdict.{Verdict}
-use Rattle.image.specs.declared.Verdict.TheVariants.{Accepted, Refused}
+use Rattle.std.specs.Prelude.{Result}
+use Rattle.image.specs.declared.Refusal.{Refusal}
+use Rattle.std.specs.Prelude.{Ok, Err}
 use Rattle.image.specs.declared.Wanted.TheVariants.{Any, Older}
 use Rattle.image.specs.declared.Way.TheVariants.{Forward, Back}
 use Rattle.image.proofs.Below.{below-same, below_at, below-stop}
@@ -103,7 +103,7 @@ module _ (p : Program) (o : Former p) where
   more-blocks rows count e h = omega (arith, o.whole)
 
   -- more blocks than it knew are 21, whatever is in them
-  pub too_long : (image : List ℕ) → most_blocks_of p < count_of image → verdict_before p image ≡ Refused BadLength
+  pub too_long : (image : List ℕ) → most_blocks_of p < count_of image → verdict_before p image ≡ Err BadLength
   unfolding verdict_before length_kept
   too_long image h = rw (lt-leb (count_of image) (most_blocks_of p) h, and-false (leb 1 (count_of image)), and-false (eqb (length image % block_size) 0))
 
@@ -117,7 +117,7 @@ module _ (p : Program) (o : Former p) where
   first-differs image v false e = e
 
   -- A READER OF BEFORE ANSWERS 23 TO VERSION 3, in an image that has no more blocks than it knew and whose checks are right
-  pub answers-23 : (image : List ℕ) → length_kept p image ≡ true → checks_keep image (count_of image) ≡ true → version_of image ≡ newest → verdict_before p image ≡ Refused BadHead
+  pub answers-23 : (image : List ℕ) → length_kept p image ≡ true → checks_keep image (count_of image) ≡ true → version_of image ≡ newest → verdict_before p image ≡ Err BadHead
   unfolding verdict_before heads_kept length_kept
   answers-23 image l c v =
       let some : leb 1 (count_of image) ≡ true = both_left (leb 1 (count_of image)) _ (both_right (eqb (length image % block_size) 0) _ l) in
@@ -136,13 +136,13 @@ module _ (p : Program) (o : Former p) where
     heads : heads_kept p image (count_of image) (header_of image) ≡ true
     contents : contents_kept p image (count_of image) (header_of image) ≡ true
 
-  kept-before : (image : List ℕ) → verdict_before p image ≡ Accepted → KeptBefore image
+  kept-before : (image : List ℕ) → verdict_before p image ≡ (Ok (tt {0})) → KeptBefore image
   unfolding verdict_before length_kept
   kept-before image e =
       let a = accepted-if (length_kept p image) _ BadLength e in
       let b = accepted-if (checks_keep image (count_of image)) _ BadCheck a.1 in
       let c = accepted-if (heads_kept p image (count_of image) (header_of image)) _ BadHead b.1 in
-      let d = accepted-if (contents_kept p image (count_of image) (header_of image)) Accepted BadContents c.1 in
+      let d = accepted-if (contents_kept p image (count_of image) (header_of image)) (Ok (tt {0})) BadContents c.1 in
       let l = three (eqb (length image % block_size) 0) (leb 1 (count_of image)) (leb (count_of image) (most_blocks_of p)) a.0 in
       record { blocks = l.0; few_blocks = leb-true (count_of image) (most_blocks_of p) l.1; checks = b.0; heads = c.0; contents = d.0 }
 
@@ -150,7 +150,7 @@ module _ (p : Program) (o : Former p) where
   unfolding contents_kept slots_kept
   count-in image e = eqb-true _ _ (both_left _ _ (both_right (header_keeps (header_of image)) _ (both_right (facts_keep image) _ e)))
 
-  module _ (image : List ℕ) (e : verdict_before p image ≡ Accepted) where
+  module _ (image : List ℕ) (e : verdict_before p image ≡ (Ok (tt {0}))) where
     -- it has no more rows than the program knew
     pub rows_before : (header_of image).board.rows ≤ p.most
     rows_before = let k = kept-before image e in few-before (header_of image).board.rows (count_of image) (count-in image k.contents) k.few_blocks
@@ -173,7 +173,7 @@ module _ (p : Program) (o : Former p) where
     fits-before = rw (not-newest, eq-eqb (version_of image) (old_version (header_of image).board.rows) (version-before ∙ o.same (header_of image).board.rows rows_before))
 
     -- WHAT WAS ACCEPTED IS ACCEPTED: by restoring, and by a move forward
-    pub forward-takes : verdict_in Older image ≡ Accepted
+    pub forward-takes : verdict_in Older image ≡ (Ok (tt {0}))
     unfolding verdict_in length_keeps heads_keep heads_kept
     forward-takes =
         let k = kept-before image e in
@@ -190,11 +190,11 @@ module _ (p : Program) (o : Former p) where
           k.contents,
         )
 
-    pub accepted-before : verdict_of image ≡ Accepted
+    pub accepted-before : verdict_of image ≡ (Ok (tt {0}))
     accepted-before = any-accepted Older image forward-takes
 
   -- AND A READER OF BEFORE ACCEPTS WHAT A MOVE FORWARD TAKES and has no more rows than it knew
-  pub accepted-by-it : (image : List ℕ) → verdict_in Older image ≡ Accepted → (header_of image).board.rows ≤ p.most → verdict_before p image ≡ Accepted
+  pub accepted-by-it : (image : List ℕ) → verdict_in Older image ≡ (Ok (tt {0})) → (header_of image).board.rows ≤ p.most → verdict_before p image ≡ (Ok (tt {0}))
   unfolding verdict_before length_kept heads_kept heads_keep
   accepted-by-it image e r =
       let a = kept Older image e in
@@ -215,13 +215,13 @@ module _ (p : Program) (o : Former p) where
         k.contents,
       )
 
-  module _ (image : List ℕ) (e : verdict_of image ≡ Accepted) where
+  module _ (image : List ℕ) (e : verdict_of image ≡ (Ok (tt {0}))) where
     -- IT ANSWERS 21 TO WHATEVER HAS MORE ROWS
-    pub refused-by-it : p.most < (header_of image).board.rows → verdict_before p image ≡ Refused BadLength
+    pub refused-by-it : p.most < (header_of image).board.rows → verdict_before p image ≡ Err BadLength
     refused-by-it r = too_long image (more-blocks (header_of image).board.rows (count_of image) (count-is image (kept Any image e).0) r)
 
     -- AND 23 TO VERSION 3 with no more
-    pub version-3-refused : version_of image ≡ newest → (header_of image).board.rows ≤ p.most → verdict_before p image ≡ Refused BadHead
+    pub version-3-refused : version_of image ≡ newest → (header_of image).board.rows ≤ p.most → verdict_before p image ≡ Err BadHead
     unfolding length_kept
     version-3-refused v r =
         let k = (kept Any image e).0 in
@@ -232,7 +232,7 @@ module _ (p : Program) (o : Former p) where
         answers-23 image l k.checks v
 
     -- AND IT TAKES WHAT A MOVE BACK MAKES OF IT
-    pub back-taken : version_of image ≡ newest → (header_of image).board.rows ≤ p.most → verdict_before p (moved_of Back image) ≡ Accepted
+    pub back-taken : version_of image ≡ newest → (header_of image).board.rows ≤ p.most → verdict_before p (moved_of Back image) ≡ (Ok (tt {0}))
     back-taken v r =
         let k = (kept Any image e).0 in
         accepted-by-it (moved_of Back image) (moved-accepted image k Back Older (old-welcome (header_of image).board.rows)) (rw (moved-header image k Back) r)
@@ -246,27 +246,27 @@ module _ (p : Program) (o : Former p) where
       ∙ sym (append_assoc xs (replicate (table_size_of p - n) 0) (replicate (table_size - table_size_of p) 0))
 
   -- the rows as they stood, in more memory
-  pub rows-stood : (image : List ℕ) → verdict_before p image ≡ Accepted → rows_of image ≡ widened p (memory_before p image)
+  pub rows-stood : (image : List ℕ) → verdict_before p image ≡ (Ok (tt {0})) → rows_of image ≡ widened p (memory_before p image)
   unfolding rows_of memory_before
   rows-stood image e =
       wider ((count_of image - 1) * body_size) (pages image first_page block_size (count_of image - 1)) (omega (arith, (kept-before image e).few_blocks, o.whole))
 
-  taken-if : (v : Verdict) (image old mem : List ℕ) (h : Header) → restored_by_before p v image old ≡ restoring (restored Accepted h) mem
-      → (v ≡ Accepted) × (h ≡ header_of image) × (mem ≡ memory_before p image)
+  taken-if : (v : Result (Unit {0}) Refusal) (image old mem : List ℕ) (h : Header) → restored_by_before p v image old ≡ restoring (restored (Ok (tt {0})) h) mem
+      → (v ≡ (Ok (tt {0}))) × (h ≡ header_of image) × (mem ≡ memory_before p image)
   unfolding restored_by_before
-  taken-if Accepted image old mem h e = (refl, sym (ap (λ (w : Restoring). w.answer.header) e), sym (ap (λ (w : Restoring). w.memory) e))
-  taken-if (Refused r) image old mem h e =
-      let y : Refused r ≡ Accepted = ap (λ (w : Restoring). w.answer.verdict) e in let x : ◌≡◌ {A = ℕ} 0 1 = cc in absurd (omega arith)
+  taken-if (Ok u) image old mem h e = (refl, sym (ap (λ (w : Restoring). w.answer.header) e), sym (ap (λ (w : Restoring). w.memory) e))
+  taken-if (Err r) image old mem h e =
+      let y : Err r ≡ (Ok (tt {0})) = ap (λ (w : Restoring). w.answer.verdict) e in let x : ◌≡◌ {A = ℕ} 0 1 = cc in absurd (omega arith)
 
-  module _ (image old mem now : List ℕ) (h : Header) (e : restore_before p image old ≡ restoring (restored Accepted h) mem) (lent : length now ≡ table_size) where
-    was-taken : (verdict_before p image ≡ Accepted) × (h ≡ header_of image) × (mem ≡ memory_before p image)
+  module _ (image old mem now : List ℕ) (h : Header) (e : restore_before p image old ≡ restoring (restored (Ok (tt {0})) h) mem) (lent : length now ≡ table_size) where
+    was-taken : (verdict_before p image ≡ (Ok (tt {0}))) × (h ≡ header_of image) × (mem ≡ memory_before p image)
     unfolding restore_before
     was-taken =
-        let t = taken-if (cond (is_table_of p old) (verdict_before p image) (Refused Unfit)) image old mem h e in
+        let t = taken-if (cond (is_table_of p old) (verdict_before p image) (Err Unfit)) image old mem h e in
         ((accepted-if (is_table_of p old) (verdict_before p image) Unfit t.0).1, t.1, t.2)
 
     -- WHAT WAS RESTORED IS RESTORED, to the same header and the same table, with the time of each seen side unknown
-    pub restored-before : restore_of image now ≡ restoring (restored Accepted h) (each_row forward_row h.board.rows (widened p mem))
+    pub restored-before : restore_of image now ≡ restoring (restored (Ok (tt {0})) h) (each_row forward_row h.board.rows (widened p mem))
     unfolding restore_of restored_by
     restored-before =
         let t = was-taken in
@@ -285,7 +285,7 @@ module _ (p : Program) (o : Former p) where
 
     -- AND SAVED AS ITS MOVE FORWARD
     pub saved-forward : (out : List ℕ) → length image ≤ length out
-        → save_of h (each_row forward_row h.board.rows (widened p mem)) out ≡ saving (Whole (length image)) (overlay out 0 (moved_of Forward image))
+        → save_of h (each_row forward_row h.board.rows (widened p mem)) out ≡ saving (Ok (length image)) (overlay out 0 (moved_of Forward image))
     saved-forward out l = restored-forward image now out _ h not-3 restored-before l
 
     -- WHICH MOVED BACK IS THE IMAGE
@@ -294,7 +294,7 @@ module _ (p : Program) (o : Former p) where
 
   -- ---- what was made
 
-  module _ (h : Header) (mem out now z : List ℕ) (n : ℕ) (ten : length h.session ≡ 10) (e : save_before p h mem out ≡ saving (Whole n) z) where
+  module _ (h : Header) (mem out now z : List ℕ) (n : ℕ) (ten : length h.session ≡ 10) (e : save_before p h mem out ≡ saving (Ok n) z) where
     abbrev rows : ℕ
     rows = h.board.rows
 
@@ -314,7 +314,7 @@ module _ (p : Program) (o : Former p) where
         let a = whole-if (within_limits_of p h mem) _ Unfit out z n e in
         let b = whole-if (header_keeps h && rows_keep (p.version rows) rows mem) _ BadContents out z n a.1 in
         let c = whole-if (leb (size_for rows) (length out)) _ ShortOutput out z n b.1 in
-        let g : Whole (size_for rows) ≡ Whole n = ap (λ (w : Saving). w.answer) c.1 in
+        let g : Ok (size_for rows) ≡ Ok n = ap (λ (w : Saving). w.answer) c.1 in
         let w = both_right (is_table_of p mem) _ a.0 in
         record {
           sized = eqb-true (length mem) (table_size_of p) (both_left _ _ a.0);
@@ -361,7 +361,7 @@ module _ (p : Program) (o : Former p) where
         let l : length (image_in (p.version rows) h (widened p mem)) ≡ n = image-length (p.version rows) version_low h (widened p mem) header-fine wide few-rows ∙ sym made.size in
         rw (made.bytes, ← l) (part-overlay out 0 (image_in (p.version rows) h (widened p mem)) (omega (arith, made.room, made.size)))
 
-    made-older : verdict_in Older (image_in (p.version rows) h (widened p mem)) ≡ Accepted
+    made-older : verdict_in Older (image_in (p.version rows) h (widened p mem)) ≡ (Ok (tt {0}))
     unfolding version_fits
     made-older =
         image-accepted (p.version rows) version_low h (widened p mem) header-fine wide few-rows made.range
@@ -369,14 +369,14 @@ module _ (p : Program) (o : Former p) where
         (ap not (ne_eqb (p.version rows) newest (o.other rows)))
 
     -- WHAT WAS MADE IS TAKEN BY A MOVE FORWARD
-    pub made-taken : verdict_in Older (part z 0 n) ≡ Accepted
+    pub made-taken : verdict_in Older (part z 0 n) ≡ (Ok (tt {0}))
     made-taken = rw made-image made-older
 
     pub made-not-3 : eqb (version_of (part z 0 n)) newest ≡ false
     made-not-3 = ne_eqb (version_of (part z 0 n)) newest (older (version_of (part z 0 n)) (kept Older (part z 0 n) made-taken).1)
 
     -- AND RESTORED, to the same header and the same table, with the time of each seen side unknown
-    pub made-before : length now ≡ table_size → restore_of (part z 0 n) now ≡ restoring (restored Accepted h) (each_row forward_row rows (cleared rows (widened p mem)))
+    pub made-before : length now ≡ table_size → restore_of (part z 0 n) now ≡ restoring (restored (Ok (tt {0})) h) (each_row forward_row rows (cleared rows (widened p mem)))
     unfolding restore_of restored_by
     made-before lent =
         let v = version-back (p.version rows) version_low h (widened p mem) header-fine wide few-rows in

@@ -15,7 +15,7 @@ use Rattle.table.specs.Board.{fits}
 use Rattle.table.specs.Rules.{rows_keep, board_keeps}
 use Rattle.image.specs.Header.{fresh_header, within_limits, is_fresh, header_keeps, session_bytes, board_bytes, first_body}
 use Rattle.image.specs.Save.{body_of, saved_block, blocks, image_in, image_of, size_for, saving, save_of}
-use Rattle.image.specs.declared.Saved.TheVariants.{Whole}
+use Rattle.std.specs.Prelude.{Ok}
 
 pub fresh-length : (mem : List ℕ) → length (image_of fresh_header mem) ≡ block_size
 unfolding digits weighted check_of head_bytes sealed block_of pages_for blocks_for head_for session_bytes board_bytes first_body body_of saved_block blocks image_in
@@ -26,6 +26,6 @@ unfolding part digits weighted check_of head_bytes sealed block_of pages_for blo
 fresh-check mem = refl
 
 pub fresh-saved : (mem out : List ℕ) → length mem ≡ table_size → block_size ≤ length out
-    → save_of fresh_header mem out ≡ saving (Whole block_size) (overlay out 0 (image_of fresh_header mem))
+    → save_of fresh_header mem out ≡ saving (Ok block_size) (overlay out 0 (image_of fresh_header mem))
 unfolding save_of within_limits fits header_keeps board_keeps listed is_fresh every rows_keep size_for blocks_for pages_for
 fresh-saved mem out l f = rw (eq-eqb (length mem) table_size l, le-leb block_size (length out) f)

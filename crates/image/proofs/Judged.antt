@@ -27,7 +27,7 @@ use Rattle.image.specs.Header.{header_of}
 use Rattle.image.specs.Restore.{count_of, length_keeps, checks_keep, head_keeps, heads_keep, version_of, slots_keep, contents_keep, verdict_in}
 use Rattle.image.specs.declared.Header.{Header}
 use Rattle.image.specs.declared.Refusal.TheVariants.{BadLength, BadCheck, BadHead, BadContents}
-use Rattle.image.specs.declared.Verdict.TheVariants.{Accepted, Refused}
+use Rattle.std.specs.Prelude.{Ok, Err}
 use Rattle.image.specs.declared.Wanted.{Wanted}
 use Rattle.image.specs.declared.Wanted.TheVariants.{Older, Newest}
 use Rattle.image.proofs.Below.{was-no, was-yes, below_none, below-turn, below-stop, below_end}
@@ -210,7 +210,7 @@ long image e =
     record { some = omega arith; few = d; whole = omega arith; least = b }
 
 module _ (image : List ℕ) (wanted : Wanted) {r : Bool} (er : r ≡ length_keeps image) where
-  pub judge-length : not r ≡ true → Refused BadLength ≡ verdict_in wanted image
+  pub judge-length : not r ≡ true → Err BadLength ≡ verdict_in wanted image
   unfolding verdict_in
   judge-length n = simp (was-no er n)
 
@@ -219,7 +219,7 @@ module _ (image : List ℕ) (wanted : Wanted) {r : Bool} (er : r ≡ length_keep
     judge-long = long image (was-yes er yes-r)
 
     module _ {q : Bool} (eq : q ≡ checks_keep image (count_of image)) where
-      pub judge-check : not q ≡ true → Refused BadCheck ≡ verdict_in wanted image
+      pub judge-check : not q ≡ true → Err BadCheck ≡ verdict_in wanted image
       unfolding verdict_in
       judge-check n = simp (was-yes er yes-r, was-no eq n)
 
@@ -227,16 +227,16 @@ module _ (image : List ℕ) (wanted : Wanted) {r : Bool} (er : r ≡ length_keep
         ew : w && u ≡ heads_keep image (count_of image) h && welcome wanted (version_of image)
         ew = rw (ew₀, eu, iv)
 
-        pub judge-head : not (w && u) ≡ true → Refused BadHead ≡ verdict_in wanted image
+        pub judge-head : not (w && u) ≡ true → Err BadHead ≡ verdict_in wanted image
         unfolding verdict_in
         judge-head n = simp (was-yes er yes-r, was-yes eq yes-q, ← eh, was-no ew n)
 
         module _ (yes-w : not (w && u) ≡ false) {v : Bool} (ev : v ≡ contents_keep image (count_of image) h) where
-          pub judge-contents : not v ≡ true → Refused BadContents ≡ verdict_in wanted image
+          pub judge-contents : not v ≡ true → Err BadContents ≡ verdict_in wanted image
           unfolding verdict_in
           judge-contents n = simp (was-yes er yes-r, was-yes eq yes-q, ← eh, was-yes ew yes-w, was-no ev n)
 
-          pub judge-accepts : not v ≡ false → Accepted ≡ verdict_in wanted image
+          pub judge-accepts : not v ≡ false → (Ok (tt {0})) ≡ verdict_in wanted image
           unfolding verdict_in
           judge-accepts n = simp (was-yes er yes-r, was-yes eq yes-q, ← eh, was-yes ew yes-w, was-yes ev n)
 

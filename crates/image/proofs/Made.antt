@@ -23,8 +23,7 @@ use Rattle.table.proofs.Truth.{start-sorted, apply-sorted}
 use Rattle.image.specs.Save.{image_of, size_for, saving, save_of}
 use Rattle.image.specs.Restore.{restored, restoring, restore_of}
 use Rattle.image.specs.declared.Header.{Header}
-use Rattle.image.specs.declared.Saved.TheVariants.{Whole}
-use Rattle.image.specs.declared.Verdict.TheVariants.{Accepted}
+use Rattle.std.specs.Prelude.{Ok}
 use Rattle.image.proofs.Rounds.{saved-restored, sound-saved, sound-cleared}
 
 -- a start, and then messages that keep their field rules, each of them accepted
@@ -67,12 +66,12 @@ made-board b l (applied b₀ l₀ m t b₁ l₁ d f k e) = apply-board b₀ m t 
 module _ (h : Header) (l : Memories) (made : Made h.board l) (next : number_in_range h.next ≡ true) (known : h.known ≡ true)
     (out : List ℕ) (room : size_for h.board.rows ≤ length out) where
   -- IT IS SAVED in memory that is long enough
-  pub made-saved : save_of h l.table out ≡ saving (Whole (size_for h.board.rows)) (overlay out 0 (image_of h l.table))
+  pub made-saved : save_of h l.table out ≡ saving (Ok (size_for h.board.rows)) (overlay out 0 (image_of h l.table))
   made-saved = sound-saved h l.table (made-sound h.board l made).0 next (made-board h.board l made) known out room
 
   -- and what is restored from it is the same header and the same memory, every byte
   pub made-restored : length h.session ≡ 10 → (old : List ℕ) → length old ≡ table_size
-      → restore_of (part (overlay out 0 (image_of h l.table)) 0 (size_for h.board.rows)) old ≡ restoring (restored Accepted h) l.table
+      → restore_of (part (overlay out 0 (image_of h l.table)) 0 (size_for h.board.rows)) old ≡ restoring (restored (Ok (tt {0})) h) l.table
   made-restored ten old k =
       saved-restored h l.table out _ _ ten made-saved old k
-      ∙ ap (restoring (restored Accepted h)) (sound-cleared h l.table (made-sound h.board l made).0 next (made-board h.board l made) known)
+      ∙ ap (restoring (restored (Ok (tt {0})) h)) (sound-cleared h l.table (made-sound h.board l made).0 next (made-board h.board l made) known)

@@ -28,9 +28,8 @@ use Rattle.image.specs.Restore.{version_of, verdict_of, rows_of, memory_of, Rest
 use Rattle.image.specs.declared.Header.{Header}
 use Rattle.image.specs.declared.Refusal.{Refusal}
 use Rattle.image.specs.declared.Refusal.TheVariants.{Unfit, BadContents, ShortOutput}
-use Rattle.image.specs.declared.Saved.TheVariants.{Whole, Unsaved}
-use Rattle.image.specs.declared.Verdict.{Verdict}
-use Rattle.image.specs.declared.Verdict.TheVariants.{Accepted, Refused}
+use Rattle.std.specs.Prelude.{Result}
+use Rattle.std.specs.Prelude.{Ok, Err}
 use Rattle.image.specs.Moves.{moved_of}
 use Rattle.image.specs.declared.Wanted.TheVariants.{Any}
 use Rattle.image.specs.declared.Way.TheVariants.{Forward}
@@ -42,10 +41,10 @@ use Rattle.image.proofs.Renewed.{after-fits, memory-new, memory-old, memory-hold
 
 -- ---- what it means that a table was saved
 
-pub whole-if : (b : Bool) (v : Saving) (r : Refusal) (o z : List ℕ) (n : ℕ) → cond b v (unsaved r o) ≡ saving (Whole n) z → (b ≡ true) × (v ≡ saving (Whole n) z)
+pub whole-if : (b : Bool) (v : Saving) (r : Refusal) (o z : List ℕ) (n : ℕ) → cond b v (unsaved r o) ≡ saving (Ok n) z → (b ≡ true) × (v ≡ saving (Ok n) z)
 whole-if true v r o z n e = (refl, e)
 whole-if false v r o z n e =
-    let y : Unsaved r ≡ Whole n = ap (λ (w : Saving). w.answer) e in let x : ◌≡◌ {A = ℕ} 0 1 = cc in absurd (omega arith)
+    let y : Err r ≡ Ok n = ap (λ (w : Saving). w.answer) e in let x : ◌≡◌ {A = ℕ} 0 1 = cc in absurd (omega arith)
 
 pub record Stored (h : Header) (mem out : List ℕ) (n : ℕ) (z : List ℕ) : Type 0 where
   pub within : within_limits h mem ≡ true
@@ -55,13 +54,13 @@ pub record Stored (h : Header) (mem out : List ℕ) (n : ℕ) (z : List ℕ) : T
   pub size : n ≡ size_for h.board.rows
   pub bytes : z ≡ overlay out 0 (image_of h mem)
 
-pub stored : (h : Header) (mem out : List ℕ) (n : ℕ) (z : List ℕ) → save_of h mem out ≡ saving (Whole n) z → Stored h mem out n z
+pub stored : (h : Header) (mem out : List ℕ) (n : ℕ) (z : List ℕ) → save_of h mem out ≡ saving (Ok n) z → Stored h mem out n z
 unfolding save_of
 stored h mem out n z e =
     let a = whole-if (within_limits h mem) _ Unfit out z n e in
     let b = whole-if (header_keeps h && rows_keep newest h.board.rows mem) _ BadContents out z n a.1 in
     let c = whole-if (leb (size_for h.board.rows) (length out)) _ ShortOutput out z n b.1 in
-    let g : Whole (size_for h.board.rows) ≡ Whole n = ap (λ (w : Saving). w.answer) c.1 in
+    let g : Ok (size_for h.board.rows) ≡ Ok n = ap (λ (w : Saving). w.answer) c.1 in
     record {
       within = a.0;
       header = both_left (header_keeps h) _ b.0;
@@ -98,7 +97,7 @@ header-fits h mem s a b =
       live = zero-or-below h.board.live (both_right (listed (0 ∷ event_codes) h.board.event) _ c);
     }
 
-module _ (h : Header) (mem out z : List ℕ) (n : ℕ) (ten : length h.session ≡ 10) (e : save_of h mem out ≡ saving (Whole n) z) where
+module _ (h : Header) (mem out z : List ℕ) (n : ℕ) (ten : length h.session ≡ 10) (e : save_of h mem out ≡ saving (Ok n) z) where
   fine : HeaderFits h
   fine = let k = stored h mem out n z e in header-fits h mem ten k.within k.header
 
@@ -118,7 +117,7 @@ module _ (h : Header) (mem out z : List ℕ) (n : ℕ) (ten : length h.session �
       ap version_of saved-image ∙ version-back newest (lit< tt) h mem fine m.0 m.1
 
   -- RESTORING WHAT WAS SAVED GIVES THE HEADER AND THE ROWS, with zeros past them
-  pub saved-restored : (old : List ℕ) → length old ≡ table_size → restore_of (part z 0 n) old ≡ restoring (restored Accepted h) (cleared h.board.rows mem)
+  pub saved-restored : (old : List ℕ) → length old ≡ table_size → restore_of (part z 0 n) old ≡ restoring (restored (Ok (tt {0})) h) (cleared h.board.rows mem)
   unfolding restore_of restored_by
   saved-restored old lo =
       let k = stored h mem out n z e in
@@ -133,27 +132,27 @@ module _ (h : Header) (mem out z : List ℕ) (n : ℕ) (ten : length h.session �
 
 -- ---- what it means that an image was restored
 
-taken-if : (v : Verdict) (image old mem : List ℕ) (h : Header) → restored_by v image old ≡ restoring (restored Accepted h) mem
-    → (v ≡ Accepted) × (h ≡ header_of image) × (mem ≡ memory_of image)
+taken-if : (v : Result (Unit {0}) Refusal) (image old mem : List ℕ) (h : Header) → restored_by v image old ≡ restoring (restored (Ok (tt {0})) h) mem
+    → (v ≡ (Ok (tt {0}))) × (h ≡ header_of image) × (mem ≡ memory_of image)
 unfolding restored_by
-taken-if Accepted image old mem h e = (refl, sym (ap (λ (w : Restoring). w.answer.header) e), sym (ap (λ (w : Restoring). w.memory) e))
-taken-if (Refused r) image old mem h e =
-    let y : Refused r ≡ Accepted = ap (λ (w : Restoring). w.answer.verdict) e in let x : ◌≡◌ {A = ℕ} 0 1 = cc in absurd (omega arith)
+taken-if (Ok u) image old mem h e = (refl, sym (ap (λ (w : Restoring). w.answer.header) e), sym (ap (λ (w : Restoring). w.memory) e))
+taken-if (Err r) image old mem h e =
+    let y : Err r ≡ (Ok (tt {0})) = ap (λ (w : Restoring). w.answer.verdict) e in let x : ◌≡◌ {A = ℕ} 0 1 = cc in absurd (omega arith)
 
-sized-if : (b : Bool) (v : Verdict) → cond b v (Refused Unfit) ≡ Accepted → v ≡ Accepted
+sized-if : (b : Bool) (v : Result (Unit {0}) Refusal) → cond b v (Err Unfit) ≡ (Ok (tt {0})) → v ≡ (Ok (tt {0}))
 sized-if true v e = e
-sized-if false v e = let z : Refused Unfit ≡ Accepted = e in cc
+sized-if false v e = let z : Err Unfit ≡ (Ok (tt {0})) = e in cc
 
-pub taken : (image old mem : List ℕ) (h : Header) → restore_of image old ≡ restoring (restored Accepted h) mem
-    → (verdict_of image ≡ Accepted) × (h ≡ header_of image) × (mem ≡ memory_of image)
+pub taken : (image old mem : List ℕ) (h : Header) → restore_of image old ≡ restoring (restored (Ok (tt {0})) h) mem
+    → (verdict_of image ≡ (Ok (tt {0}))) × (h ≡ header_of image) × (mem ≡ memory_of image)
 unfolding restore_of
 taken image old mem h e =
-    let t = taken-if (cond (is_table old) (verdict_of image) (Refused Unfit)) image old mem h e in
+    let t = taken-if (cond (is_table old) (verdict_of image) (Err Unfit)) image old mem h e in
     (sized-if (is_table old) (verdict_of image) t.0, t.1, t.2)
 
 -- SAVING WHAT WAS RESTORED GIVES ITS IMAGE OF VERSION 3
-pub restored-renewed : (image old out mem : List ℕ) (h : Header) → restore_of image old ≡ restoring (restored Accepted h) mem → length image ≤ length out
-    → save_of h mem out ≡ saving (Whole (length image)) (overlay out 0 (image_of (header_of image) (memory_of image)))
+pub restored-renewed : (image old out mem : List ℕ) (h : Header) → restore_of image old ≡ restoring (restored (Ok (tt {0})) h) mem → length image ≤ length out
+    → save_of h mem out ≡ saving (Ok (length image)) (overlay out 0 (image_of (header_of image) (memory_of image)))
 unfolding save_of size_for
 restored-renewed image old out mem h e f =
     let g = taken image old mem h e in
@@ -170,21 +169,21 @@ restored-renewed image old out mem h e f =
     )
 
 -- THE SAME BYTES FOR AN IMAGE OF VERSION 3
-pub restored-saved : (image old out mem : List ℕ) (h : Header) → Bytes image → version_of image ≡ newest → restore_of image old ≡ restoring (restored Accepted h) mem
-    → length image ≤ length out → save_of h mem out ≡ saving (Whole (length image)) (overlay out 0 image)
+pub restored-saved : (image old out mem : List ℕ) (h : Header) → Bytes image → version_of image ≡ newest → restore_of image old ≡ restoring (restored (Ok (tt {0})) h) mem
+    → length image ≤ length out → save_of h mem out ≡ saving (Ok (length image)) (overlay out 0 image)
 restored-saved image old out mem h by v e f =
     let k = (kept Any image (taken image old mem h e).0).0 in
     let i : image_of (header_of image) (memory_of image) ≡ image
     = ap (image_of (header_of image)) (memory-new image v) ∙ ap (λ (w : ℕ). image_in w (header_of image) (rows_of image)) (sym v) ∙ image-again image k by in
-    restored-renewed image old out mem h e f ∙ ap (λ (x : List ℕ). saving (Whole (length image)) (overlay out 0 x)) i
+    restored-renewed image old out mem h e f ∙ ap (λ (x : List ℕ). saving (Ok (length image)) (overlay out 0 x)) i
 
 -- AND FOR AN OLDER ONE THE BYTES OF ITS MOVE FORWARD
-pub restored-forward : (image old out mem : List ℕ) (h : Header) → eqb (version_of image) newest ≡ false → restore_of image old ≡ restoring (restored Accepted h) mem
-    → length image ≤ length out → save_of h mem out ≡ saving (Whole (length image)) (overlay out 0 (moved_of Forward image))
+pub restored-forward : (image old out mem : List ℕ) (h : Header) → eqb (version_of image) newest ≡ false → restore_of image old ≡ restoring (restored (Ok (tt {0})) h) mem
+    → length image ≤ length out → save_of h mem out ≡ saving (Ok (length image)) (overlay out 0 (moved_of Forward image))
 unfolding moved_of
 restored-forward image old out mem h v e f =
     restored-renewed image old out mem h e f
-    ∙ ap (λ (x : List ℕ). saving (Whole (length image)) (overlay out 0 (image_of (header_of image) x))) (memory-old image v)
+    ∙ ap (λ (x : List ℕ). saving (Ok (length image)) (overlay out 0 (image_of (header_of image) x))) (memory-old image v)
 
 -- WHAT IS RESTORED KEEPS THE RULES: the table is as our own calls make it, and the header within its limits
 pub record Good (h : Header) (mem : List ℕ) : Type 0 where
@@ -192,7 +191,7 @@ pub record Good (h : Header) (mem : List ℕ) : Type 0 where
   pub next : number_in_range h.next ≡ true
   pub header : header_keeps h ≡ true
 
-pub restored-good : (image old mem : List ℕ) (h : Header) → restore_of image old ≡ restoring (restored Accepted h) mem → Good h mem
+pub restored-good : (image old mem : List ℕ) (h : Header) → restore_of image old ≡ restoring (restored (Ok (tt {0})) h) mem → Good h mem
 restored-good image old mem h e =
     let g = taken image old mem h e in
     let k = (kept Any image g.0).0 in
@@ -214,7 +213,7 @@ restored-good image old mem h e =
 module _ (h : Header) (mem : List ℕ) (sound : Sound h.board.rows mem) (next : number_in_range h.next ≡ true) (board : board_keeps h.board ≡ true) (known : h.known ≡ true) where
   -- A TABLE THAT OUR OWN CALLS MADE, WITH A KNOWN SESSION, IS SAVED in memory that is long enough
   pub sound-saved : (out : List ℕ) → size_for h.board.rows ≤ length out
-      → save_of h mem out ≡ saving (Whole (size_for h.board.rows)) (overlay out 0 (image_of h mem))
+      → save_of h mem out ≡ saving (Ok (size_for h.board.rows)) (overlay out 0 (image_of h mem))
   unfolding save_of within_limits fits header_keeps
   sound-saved out f =
       rw (

@@ -25,9 +25,8 @@ use Rattle.image.specs.Restore.{count_of, version_of, verdict_in, verdict_of, ro
 use Rattle.image.specs.declared.Header.{Header}
 use Rattle.image.specs.declared.Refusal.{Refusal}
 use Rattle.image.specs.declared.Refusal.TheVariants.{Unfit, BadLength, BadContents, ShortOutput}
-use Rattle.image.specs.declared.Saved.TheVariants.{Whole}
-use Rattle.image.specs.declared.Verdict.{Verdict}
-use Rattle.image.specs.declared.Verdict.TheVariants.{Accepted, Refused}
+use Rattle.std.specs.Prelude.{Result}
+use Rattle.std.specs.Prelude.{Ok, Err}
 use Rattle.image.specs.declared.Restored.{Restored}
 use Rattle.image.specs.declared.Wanted.{Wanted}
 use Rattle.image.proofs.Below.{was-no, was-yes}
@@ -81,41 +80,41 @@ module _ (h : Header) (mem out : List ℕ) {r : Bool} (er : r ≡ within_limits 
         save-short e = simp (was-yes er yes-r, was-yes kept yes-kept, ← en, lt-leb (n * block_size) (length out) e)
 
         pub save-whole : n * block_size ≤ length out → {z : List ℕ} → z ≡ overlay out 0 (image_of h mem)
-            → saving (Whole (n * block_size)) z ≡ save_of h mem out
+            → saving (Ok (n * block_size)) z ≡ save_of h mem out
         unfolding save_of size_for
         save-whole e ez = simp (was-yes er yes-r, was-yes kept yes-kept, ← en, le-leb (n * block_size) (length out) e, ← ez)
 
 -- ---- restoring
 
 -- what acceptance says of the length
-accepted-if : (b : Bool) (v : Verdict) (r : Refusal) → cond b v (Refused r) ≡ Accepted → b ≡ true
+accepted-if : (b : Bool) (v : Result (Unit {0}) Refusal) (r : Refusal) → cond b v (Err r) ≡ (Ok (tt {0})) → b ≡ true
 accepted-if true v r e = refl
-accepted-if false v r e = let z : Refused r ≡ Accepted = e in cc
+accepted-if false v r e = let z : Err r ≡ (Ok (tt {0})) = e in cc
 
-pub accepted-long : (wanted : Wanted) (image : List ℕ) (v : Verdict) → v ≡ verdict_in wanted image → v ≡ Accepted → Long image
+pub accepted-long : (wanted : Wanted) (image : List ℕ) (v : Result (Unit {0}) Refusal) → v ≡ verdict_in wanted image → v ≡ (Ok (tt {0})) → Long image
 unfolding verdict_in
 accepted-long wanted image v e f = long image (accepted-if _ _ BadLength (sym e ∙ f))
 
-pub refused-with : (r : Refusal) {h : Header} → h ≡ fresh_header → restored (Refused r) h ≡ restored (Refused r) fresh_header
-refused-with r e = ap (restored (Refused r)) e
+pub refused-with : (r : Refusal) {h : Header} → h ≡ fresh_header → restored (Err r) h ≡ restored (Err r) fresh_header
+refused-with r e = ap (restored (Err r)) e
 
 module _ (image mem : List ℕ) {w : Bool} (told : w ≡ is_table mem) where
-  pub restore-unfit : {a : Restored} → a ≡ restored (Refused Unfit) fresh_header → not w ≡ true → restoring a mem ≡ restore_of image mem
+  pub restore-unfit : {a : Restored} → a ≡ restored (Err Unfit) fresh_header → not w ≡ true → restoring a mem ≡ restore_of image mem
   unfolding restore_of restored_by
   restore-unfit e d = simp (was-no told d, e)
 
-  module _ (l : not w ≡ false) {v : Verdict} (ev : v ≡ verdict_of image) where
+  module _ (l : not w ≡ false) {v : Result (Unit {0}) Refusal} (ev : v ≡ verdict_of image) where
     judged : restored_by v image mem ≡ restore_of image mem
     unfolding restore_of
     judged = simp (was-yes told l, ev)
 
-    pub restore-refuses : (r : Refusal) {a : Restored} → v ≡ Refused r → a ≡ restored (Refused r) fresh_header → restoring a mem ≡ restore_of image mem
+    pub restore-refuses : (r : Refusal) {a : Restored} → v ≡ Err r → a ≡ restored (Err r) fresh_header → restoring a mem ≡ restore_of image mem
     unfolding restored_by
-    restore-refuses r f e = simp (e) (sym (ap (λ (u : Verdict). restored_by u image mem) f) ∙ judged)
+    restore-refuses r f e = simp (e) (sym (ap (λ (u : Result (Unit {0}) Refusal). restored_by u image mem) f) ∙ judged)
 
-    pub restore-accepts : (h : Header) {n : ℕ} {y z : List ℕ} → v ≡ Accepted
+    pub restore-accepts : (h : Header) {n : ℕ} {y z : List ℕ} → v ≡ (Ok (tt {0}))
         → y ≡ pages image first_page block_size (count_of image - 1) ++ replicate (table_size - (count_of image - 1) * body_size) 0
         → h ≡ header_of image → n ≡ version_of image → z ≡ renewed n h.board.rows y
-        → restoring (restored Accepted h) z ≡ restore_of image mem
+        → restoring (restored (Ok (tt {0})) h) z ≡ restore_of image mem
     unfolding restored_by memory_of rows_of
-    restore-accepts h f ey e en ez = simp (e, ez, en, ey) (sym (ap (λ (u : Verdict). restored_by u image mem) f) ∙ judged)
+    restore-accepts h f ey e en ez = simp (e, ez, en, ey) (sym (ap (λ (u : Result (Unit {0}) Refusal). restored_by u image mem) f) ∙ judged)

@@ -1,4 +1,4 @@
--- Saved tables as the programs of before had them. Until W-208 a table had at most 256 rows and an image version 1; until W-209 a table had at most 500, and
+-- Result ℕ Refusal tables as the programs of before had them. Until W-208 a table had at most 256 rows and an image version 1; until W-209 a table had at most 500, and
 -- an image version 1 for up to 256 rows and version 2 for more. Neither knew the times of the sides. The rules that stayed are not said again.
 -- Assumes nothing.
 use Rattle.std.specs.Prelude.{ℕ, ◌+◌, ◌-◌, ◌*◌, ◌/◌, ◌%◌, ◌≤◌, ◌≡◌, Bool, ◌&&◌, cond, List, ◌++◌, eqb, leb, length, drop, replicate}
@@ -16,9 +16,9 @@ use Rattle.image.specs.Save.{image_in, size_for, Saving, saving, unsaved}
 use Rattle.image.specs.Restore.{count_of, checks_keep, facts_keep, Restoring, restored, restoring}
 use Rattle.image.specs.declared.Header.{Header}
 use Rattle.image.specs.declared.Refusal.TheVariants.{Unfit, BadLength, BadCheck, BadHead, BadContents, ShortOutput}
-use Rattle.image.specs.declared.Saved.TheVariants.{Whole}
-use Rattle.image.specs.declared.Verdict.{Verdict}
-use Rattle.image.specs.declared.Verdict.TheVariants.{Accepted, Refused}
+use Rattle.std.specs.Prelude.{Result}
+use Rattle.image.specs.declared.Refusal.{Refusal}
+use Rattle.std.specs.Prelude.{Ok, Err}
 
 -- ---- the programs
 
@@ -81,15 +81,15 @@ slots_kept p image count rows =
 unfoldable pub contents_kept : Program → List ℕ → ℕ → Header → Bool
 contents_kept p image count h = facts_keep image && (header_keeps h && slots_kept p image count h.board.rows)
 
-unfoldable pub verdict_before : Program → List ℕ → Verdict
+unfoldable pub verdict_before : Program → List ℕ → Result (Unit {0}) Refusal
 verdict_before p image =
     cond (length_kept p image)
     (cond (checks_keep image (count_of image))
     (cond (heads_kept p image (count_of image) (header_of image))
-    (cond (contents_kept p image (count_of image) (header_of image)) Accepted (Refused BadContents))
-    (Refused BadHead))
-    (Refused BadCheck))
-    (Refused BadLength)
+    (cond (contents_kept p image (count_of image) (header_of image)) (Ok (tt {0})) (Err BadContents))
+    (Err BadHead))
+    (Err BadCheck))
+    (Err BadLength)
 
 -- ---- restoring
 
@@ -97,13 +97,13 @@ unfoldable pub memory_before : Program → List ℕ → List ℕ
 memory_before p image =
     pages image first_page block_size (count_of image - 1) ++ replicate (table_size_of p - (count_of image - 1) * body_size) 0
 
-unfoldable pub restored_by_before : Program → Verdict → List ℕ → List ℕ → Restoring
-restored_by_before p Accepted image mem = restoring (restored Accepted (header_of image)) (memory_before p image)
-restored_by_before p (Refused r) image mem = restoring (restored (Refused r) fresh_header) mem
+unfoldable pub restored_by_before : Program → Result (Unit {0}) Refusal → List ℕ → List ℕ → Restoring
+restored_by_before p (Ok u) image mem = restoring (restored (Ok (tt {0})) (header_of image)) (memory_before p image)
+restored_by_before p (Err r) image mem = restoring (restored (Err r) fresh_header) mem
 
 unfoldable pub restore_before : Program → List ℕ → List ℕ → Restoring
 restore_before p image mem =
-    restored_by_before p (cond (is_table_of p mem) (verdict_before p image) (Refused Unfit)) image mem
+    restored_by_before p (cond (is_table_of p mem) (verdict_before p image) (Err Unfit)) image mem
 
 -- ---- saving
 
@@ -119,7 +119,7 @@ save_before p h mem out =
     cond (within_limits_of p h mem)
     (cond (header_keeps h && rows_keep (p.version h.board.rows) h.board.rows mem)
     (cond (leb (size_for h.board.rows) (length out))
-    (saving (Whole (size_for h.board.rows)) (overlay out 0 (image_before p h mem)))
+    (saving (Ok (size_for h.board.rows)) (overlay out 0 (image_before p h mem)))
     (unsaved ShortOutput out))
     (unsaved BadContents out))
     (unsaved Unfit out)

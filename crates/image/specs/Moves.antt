@@ -10,9 +10,9 @@ use Rattle.image.specs.Header.{header_of}
 use Rattle.image.specs.Save.{image_in, Saving, saving, unsaved}
 use Rattle.image.specs.Restore.{rows_of, verdict_in}
 use Rattle.image.specs.declared.Refusal.TheVariants.{ShortOutput}
-use Rattle.image.specs.declared.Saved.TheVariants.{Whole}
-use Rattle.image.specs.declared.Verdict.{Verdict}
-use Rattle.image.specs.declared.Verdict.TheVariants.{Accepted, Refused}
+use Rattle.std.specs.Prelude.{Result}
+use Rattle.image.specs.declared.Refusal.{Refusal}
+use Rattle.std.specs.Prelude.{Ok, Err}
 use Rattle.image.specs.declared.Wanted.{Wanted}
 use Rattle.image.specs.declared.Wanted.TheVariants.{Older, Newest}
 use Rattle.image.specs.declared.Way.{Way}
@@ -44,11 +44,11 @@ moved_of way image =
     (each_row (along way) (header_of image).board.rows (rows_of image))
 
 -- 21 to 24 as on restoring, 23 also for the wrong version; then 25, and then nothing is written
-unfoldable pub moved_by : Verdict → Way → List ℕ → List ℕ → Saving
-moved_by Accepted way image out =
-    cond (leb (length image) (length out)) (saving (Whole (length image)) (overlay out 0 (moved_of way image)))
+unfoldable pub moved_by : Result (Unit {0}) Refusal → Way → List ℕ → List ℕ → Saving
+moved_by (Ok u) way image out =
+    cond (leb (length image) (length out)) (saving (Ok (length image)) (overlay out 0 (moved_of way image)))
     (unsaved ShortOutput out)
-moved_by (Refused r) way image out = unsaved r out
+moved_by (Err r) way image out = unsaved r out
 
 unfoldable pub move_of : Way → List ℕ → List ℕ → Saving
 move_of way image out = moved_by (verdict_in (wanted_by way) image) way image out
@@ -65,9 +65,9 @@ known_in zero mem = 0
 known_in (suc n) mem = known_in n mem + known_times (row n mem)
 
 -- all of them are lost; a move that is refused loses none
-unfoldable pub lost_by : Verdict → List ℕ → ℕ
-lost_by Accepted image = known_in (header_of image).board.rows (rows_of image)
-lost_by (Refused r) image = 0
+unfoldable pub lost_by : Result (Unit {0}) Refusal → List ℕ → ℕ
+lost_by (Ok u) image = known_in (header_of image).board.rows (rows_of image)
+lost_by (Err r) image = 0
 
 unfoldable pub lost_of : List ℕ → ℕ
 lost_of image = lost_by (verdict_in Newest image) image

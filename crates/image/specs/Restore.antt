@@ -13,8 +13,9 @@ use Rattle.image.specs.Shape.{blocks_for, most_blocks, version_fits, welcome, he
 use Rattle.image.specs.Header.{fresh_header, header_keeps, facts_size, header_of}
 use Rattle.image.specs.declared.Header.{Header}
 use Rattle.image.specs.declared.Refusal.TheVariants.{Unfit, BadLength, BadCheck, BadHead, BadContents}
-use Rattle.image.specs.declared.Verdict.{Verdict}
-use Rattle.image.specs.declared.Verdict.TheVariants.{Accepted, Refused}
+use Rattle.std.specs.Prelude.{Result}
+use Rattle.image.specs.declared.Refusal.{Refusal}
+use Rattle.std.specs.Prelude.{Ok, Err}
 use Rattle.image.specs.declared.Restored.{Restored}
 use Rattle.image.specs.declared.Wanted.{Wanted}
 use Rattle.image.specs.declared.Wanted.TheVariants.{Any}
@@ -62,17 +63,17 @@ unfoldable pub contents_keep : List ℕ → ℕ → Header → Bool
 contents_keep image count h = facts_keep image && (header_keeps h && slots_keep image count h.board.rows)
 
 -- 23 is also for a version that the call does not take
-unfoldable pub verdict_in : Wanted → List ℕ → Verdict
+unfoldable pub verdict_in : Wanted → List ℕ → Result (Unit {0}) Refusal
 verdict_in wanted image =
     cond (length_keeps image)
     (cond (checks_keep image (count_of image))
     (cond (heads_keep image (count_of image) (header_of image) && welcome wanted (version_of image))
-    (cond (contents_keep image (count_of image) (header_of image)) Accepted (Refused BadContents))
-    (Refused BadHead))
-    (Refused BadCheck))
-    (Refused BadLength)
+    (cond (contents_keep image (count_of image) (header_of image)) (Ok (tt {0})) (Err BadContents))
+    (Err BadHead))
+    (Err BadCheck))
+    (Err BadLength)
 
-abbrev pub verdict_of : List ℕ → Verdict
+abbrev pub verdict_of : List ℕ → Result (Unit {0}) Refusal
 verdict_of image = verdict_in Any image
 
 -- ---- restoring
@@ -94,18 +95,18 @@ pub record Restoring : Type 0 where
   pub answer : Restored
   pub memory : List ℕ
 
-abbrev pub restored : Verdict → Header → Restored
+abbrev pub restored : Result (Unit {0}) Refusal → Header → Restored
 restored v h = record { verdict = v; header = h }
 
 abbrev pub restoring : Restored → List ℕ → Restoring
 restoring a mem = record { answer = a; memory = mem }
 
 -- a refusal leaves the memory, and its header is that of a fresh reader
-unfoldable pub restored_by : Verdict → List ℕ → List ℕ → Restoring
-restored_by Accepted image mem = restoring (restored Accepted (header_of image)) (memory_of image)
-restored_by (Refused r) image mem = restoring (restored (Refused r) fresh_header) mem
+unfoldable pub restored_by : Result (Unit {0}) Refusal → List ℕ → List ℕ → Restoring
+restored_by (Ok u) image mem = restoring (restored (Ok (tt {0})) (header_of image)) (memory_of image)
+restored_by (Err r) image mem = restoring (restored (Err r) fresh_header) mem
 
 -- 20 for table memory of the wrong length comes first
 unfoldable pub restore_of : List ℕ → List ℕ → Restoring
 restore_of image mem =
-    restored_by (cond (is_table mem) (verdict_of image) (Refused Unfit)) image mem
+    restored_by (cond (is_table mem) (verdict_of image) (Err Unfit)) image mem

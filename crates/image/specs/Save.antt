@@ -11,8 +11,8 @@ use Rattle.image.specs.Header.{within_limits, header_keeps, first_body}
 use Rattle.image.specs.declared.Header.{Header}
 use Rattle.image.specs.declared.Refusal.{Refusal}
 use Rattle.image.specs.declared.Refusal.TheVariants.{Unfit, BadLength, BadCheck, BadHead, BadContents, ShortOutput}
-use Rattle.image.specs.declared.Saved.{Saved}
-use Rattle.image.specs.declared.Saved.TheVariants.{Whole, Unsaved}
+use Rattle.std.specs.Prelude.{Result}
+use Rattle.std.specs.Prelude.{Ok, Err}
 
 -- ---- the paper's number of each refusal
 abbrev pub refusal_number : Refusal → ℕ
@@ -60,14 +60,14 @@ size_for rows = blocks_for rows * block_size
 
 -- an answer, and the output that it leaves
 pub record Saving : Type 0 where
-  pub answer : Saved
+  pub answer : Result ℕ Refusal
   pub out : List ℕ
 
-abbrev pub saving : Saved → List ℕ → Saving
+abbrev pub saving : Result ℕ Refusal → List ℕ → Saving
 saving a out = record { answer = a; out = out }
 
 abbrev pub unsaved : Refusal → List ℕ → Saving
-unsaved r out = saving (Unsaved r) out
+unsaved r out = saving (Err r) out
 
 -- 20, then 24, then 25, and then nothing is written; a success writes the image and touches nothing after it
 unfoldable pub save_of : Header → List ℕ → List ℕ → Saving
@@ -75,7 +75,7 @@ save_of h mem out =
     cond (within_limits h mem)
     (cond (header_keeps h && rows_keep newest h.board.rows mem)
     (cond (leb (size_for h.board.rows) (length out))
-    (saving (Whole (size_for h.board.rows)) (overlay out 0 (image_of h mem)))
+    (saving (Ok (size_for h.board.rows)) (overlay out 0 (image_of h mem)))
     (unsaved ShortOutput out))
     (unsaved BadContents out))
     (unsaved Unfit out)

@@ -34,10 +34,8 @@ pub fn all(table: &mut [u8], way: Way, rows: usize)
     requires { row_at rows ≤ length table.old }
     ensures { table.new ≡ each_row (along way) rows table.old }
 {
-    let mut k = 0;
-    while k < rows {
+    for k in 0..rows {
         go_at(table, way, k);
-        k += 1;
     }
 }
 

@@ -49,16 +49,16 @@ fn put_session(out: &mut [u8], at: usize, h: Header)
 {
     let session = h.session;
     field::copy(&session, 0, 10, out, at);
-    field::write1(out, at + 10, flag(h.known));
+    field::write::<u8>(out, at + 10, flag(h.known));
 }
 
 fn put_board(out: &mut [u8], at: usize, b: Board)
     requires { (at + 11 ≤ length out.old) × (b.rows ≤ most_rows) }
     ensures { out.new ≡ overlay out.old at (board_bytes b) }
 {
-    field::write1(out, at, b.event);
-    field::write2(out, at + 1, b.rows as u16);
-    field::write8(out, at + 3, b.live);
+    field::write::<u8>(out, at, b.event);
+    field::write::<u16>(out, at + 1, b.rows as u16);
+    field::write::<u64>(out, at + 3, b.live);
 }
 
 // The body of block 0.
@@ -79,12 +79,12 @@ pub fn read(image: &[u8]) -> Header
 {
     let mut session = [0u8; 10];
     field::copy(image, 14, 10, &mut session, 0);
-    let known = field::read1(image, 24) == 1;
+    let known = field::read::<u8>(image, 24) == 1;
     let first = block::read_head(image, 0);
     let board = Board {
-        rows: field::read2(image, 26) as usize,
-        event: field::read1(image, 25),
-        live: field::read8(image, 28),
+        rows: field::read::<u16>(image, 26) as usize,
+        event: field::read::<u8>(image, 25),
+        live: field::read::<u64>(image, 28),
     };
     Header {
         session,
@@ -107,7 +107,7 @@ pub fn only_facts(image: &[u8]) -> bool
     requires { block_size ≤ length image.now }
     ensures { result ≡ facts_keep image.now }
 {
-    (field::read1(image, 24) <= 1)
+    (field::read::<u8>(image, 24) <= 1)
         & text::only(
             image,
             block::HEAD_SIZE + FACTS_SIZE,

@@ -4,7 +4,7 @@ ghost use Rattle.block.specs.Block.{block_size};
 ghost use Rattle.image.specs.Shape.{most_blocks, welcome};
 ghost use Rattle.image.specs.Restore.{length_keeps, checks_keep, version_of, head_keeps, heads_keep, slots_keep, contents_keep, verdict_in};
 
-use crate::{Header, Refusal, Verdict, Wanted, facts, pages, rows};
+use crate::{Header, Refusal, Wanted, facts, pages, rows};
 use field::{limits, text};
 
 fn length_keeps(image: &[u8]) -> bool
@@ -18,12 +18,10 @@ fn checks_keep(image: &[u8], count: usize) -> bool
     requires { count * block_size ≤ length image.now }
     ensures { result ≡ checks_keep image.now count }
 {
-    let mut k = 0;
-    while k < count {
+    for k in 0..count {
         if !block::check_keeps(image, k * block::BLOCK_SIZE) {
             return false;
         }
-        k += 1;
     }
     true
 }
@@ -54,12 +52,10 @@ fn heads_keep(image: &[u8], count: usize, h: Header, version: u16) -> bool
     if !fit {
         return false;
     }
-    let mut k = 0;
-    while k < count {
+    for k in 0..count {
         if !head_keeps(image, count, h, version, k) {
             return false;
         }
-        k += 1;
     }
     true
 }
@@ -92,24 +88,24 @@ fn contents_keep(image: &[u8], count: usize, h: Header, version: u16) -> bool
     slots_keep(image, count, version, h.board.rows)
 }
 
-pub fn judge(image: &[u8], wanted: Wanted) -> Verdict
+pub fn judge(image: &[u8], wanted: Wanted) -> Result<(), Refusal>
     ensures { result ≡ verdict_in wanted image.now }
 {
     if !length_keeps(image) {
-        return Verdict::Refused(Refusal::BadLength);
+        return Err(Refusal::BadLength);
     }
     let count = image.len() / block::BLOCK_SIZE;
     if !checks_keep(image, count) {
-        return Verdict::Refused(Refusal::BadCheck);
+        return Err(Refusal::BadCheck);
     }
     let h = facts::read(image);
     let version = facts::version(image);
     let fit = heads_keep(image, count, h, version) & welcomes(wanted, version);
     if !fit {
-        return Verdict::Refused(Refusal::BadHead);
+        return Err(Refusal::BadHead);
     }
     if !contents_keep(image, count, h, version) {
-        return Verdict::Refused(Refusal::BadContents);
+        return Err(Refusal::BadContents);
     }
-    Verdict::Accepted
+    Ok(())
 }

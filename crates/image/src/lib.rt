@@ -4,7 +4,7 @@
 ghost use Rattle.std.specs.Prelude.{◌≡◌};
 ghost use Rattle.image.specs.Header.{fresh_header, within_limits};
 ghost use Rattle.image.specs.Save.{refusal_number, saving, save_of};
-ghost use Rattle.image.specs.declared.Verdict.TheVariants.{Refused};
+ghost use Rattle.std.specs.Prelude.{Err};
 ghost use Rattle.image.specs.Restore.{restoring, restored, restore_of};
 
 use table::Board;
@@ -64,21 +64,8 @@ pub enum Way {
 }
 
 #[derive(Clone, Copy)]
-pub enum Saved {
-    // So many bytes were written.
-    Whole(usize),
-    Unsaved(Refusal),
-}
-
-#[derive(Clone, Copy)]
-pub enum Verdict {
-    Accepted,
-    Refused(Refusal),
-}
-
-#[derive(Clone, Copy)]
 pub struct Restored {
-    pub verdict: Verdict,
+    pub verdict: Result<(), Refusal>,
     pub header: Header,
 }
 
@@ -114,32 +101,32 @@ fn within_limits(h: Header, table: &[u8]) -> bool
 }
 
 // The image of the rows in use and of what stands beside them, to the front of `out`.
-pub fn save(h: Header, table: &[u8], out: &mut [u8]) -> Saved
+pub fn save(h: Header, table: &[u8], out: &mut [u8]) -> Result<usize, Refusal>
     ensures { saving result out.new ≡ save_of h table.now out.old }
 {
     if !within_limits(h, table) {
-        return Saved::Unsaved(Refusal::Unfit);
+        return Err(Refusal::Unfit);
     }
     let rows = h.board.rows;
     let kept = facts::keep(h) & rows::keep(table, 0, block::BODY_SIZE, row::rules::NEWEST, rows);
     if !kept {
-        return Saved::Unsaved(Refusal::BadContents);
+        return Err(Refusal::BadContents);
     }
     let count = pages::blocks_for(rows);
     let size = count * block::BLOCK_SIZE;
     if out.len() < size {
-        return Saved::Unsaved(Refusal::ShortOutput);
+        return Err(Refusal::ShortOutput);
     }
     pages::put_blocks(out, h, table, count);
-    Saved::Whole(size)
+    Ok(size)
 }
 
 fn refuse(r: Refusal) -> Restored
-    ensures { result ≡ restored (Refused r) fresh_header }
+    ensures { result ≡ restored (Err r) fresh_header }
 {
     let header = fresh_header();
     Restored {
-        verdict: Verdict::Refused(r),
+        verdict: Err(r),
         header,
     }
 }
@@ -152,15 +139,15 @@ pub fn restore(image: &[u8], table: &mut [u8]) -> Restored
         return refuse(Refusal::Unfit);
     }
     match judge::judge(image, Wanted::Any) {
-        Verdict::Accepted => {
+        Ok(()) => {
             pages::take(image, table, image.len() / block::BLOCK_SIZE - 1);
             let header = facts::read(image);
             each_row::renew(table, facts::version(image), header.board.rows);
             Restored {
-                verdict: Verdict::Accepted,
+                verdict: Ok(()),
                 header,
             }
         }
-        Verdict::Refused(r) => refuse(r),
+        Err(r) => refuse(r),
     }
 }

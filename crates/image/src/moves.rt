@@ -1,6 +1,6 @@
 // Images moved to version 3 and back (W-209).
 ghost use Rattle.std.specs.Prelude.{◌≡◌, ◌+◌, ◌*◌, ◌≤◌, ◌<◌, length};
-ghost use Rattle.image.specs.declared.Verdict.TheVariants.{Accepted};
+ghost use Rattle.std.specs.Prelude.{Ok};
 ghost use Rattle.table.specs.Memory.{row, each_row};
 ghost use Rattle.field.specs.Bytes.{overlay};
 ghost use Rattle.block.specs.Block.{block_size, body_size};
@@ -11,7 +11,7 @@ ghost use Rattle.image.specs.Restore.{rows_of, verdict_of};
 ghost use Rattle.image.specs.Moves.{used_in, wanted_by, version_after, along, move_of, known_in, lost_of};
 ghost use Rattle.image.specs.declared.Way.TheVariants.{Forward, Back};
 
-use crate::{Header, Refusal, Saved, Verdict, Wanted, Way, each_row, facts, judge, pages, rows};
+use crate::{Header, Refusal, Wanted, Way, each_row, facts, judge, pages, rows};
 use row::rules;
 
 // So many rows stand in page k.
@@ -28,7 +28,7 @@ fn used_in(rows: usize, k: usize) -> usize
 
 // Page k of an image, moved.
 fn put_page(image: &[u8], out: &mut [u8], at: usize, way: Way, rows: usize, k: usize)
-    requires { (verdict_of image.now ≡ Accepted) × (rows ≡ (header_of image.now).board.rows) × (at + body_size ≤ length out.old) × (k < pages_for rows) }
+    requires { (verdict_of image.now ≡ Ok tt) × (rows ≡ (header_of image.now).board.rows) × (at + body_size ≤ length out.old) × (k < pages_for rows) }
     ensures { out.new ≡ overlay out.old at (page_of rows (each_row (along way) rows (rows_of image.now)) k) }
 {
     field::copy(
@@ -44,7 +44,7 @@ fn put_page(image: &[u8], out: &mut [u8], at: usize, way: Way, rows: usize, k: u
 }
 
 fn put_body(image: &[u8], out: &mut [u8], at: usize, h: Header, way: Way, k: usize)
-    requires { (verdict_of image.now ≡ Accepted) × (h ≡ header_of image.now) × (at + body_size ≤ length out.old) × (k < blocks_for h.board.rows) }
+    requires { (verdict_of image.now ≡ Ok tt) × (h ≡ header_of image.now) × (at + body_size ≤ length out.old) × (k < blocks_for h.board.rows) }
     ensures { out.new ≡ overlay out.old at (body_of h (each_row (along way) h.board.rows (rows_of image.now)) k) }
 {
     if k == 0 {
@@ -63,7 +63,7 @@ fn put_block(
     count: usize,
     k: usize,
 )
-    requires { (verdict_of image.now ≡ Accepted) × (h ≡ header_of image.now) × (count ≡ blocks_for h.board.rows) × (k < count) × (k * block_size + block_size ≤ length out.old) }
+    requires { (verdict_of image.now ≡ Ok tt) × (h ≡ header_of image.now) × (count ≡ blocks_for h.board.rows) × (k < count) × (k * block_size + block_size ≤ length out.old) }
     ensures { out.new ≡ overlay out.old (k * block_size) (saved_block version h (each_row (along way) h.board.rows (rows_of image.now)) k) }
 {
     let at = k * block::BLOCK_SIZE;
@@ -73,13 +73,11 @@ fn put_block(
 }
 
 fn put_blocks(image: &[u8], out: &mut [u8], h: Header, version: u16, way: Way, count: usize)
-    requires { (verdict_of image.now ≡ Accepted) × (h ≡ header_of image.now) × (count ≡ blocks_for h.board.rows) × (count * block_size ≤ length out.old) }
+    requires { (verdict_of image.now ≡ Ok tt) × (h ≡ header_of image.now) × (count ≡ blocks_for h.board.rows) × (count * block_size ≤ length out.old) }
     ensures { out.new ≡ overlay out.old 0 (image_in version h (each_row (along way) h.board.rows (rows_of image.now))) }
 {
-    let mut k = 0;
-    while k < count {
+    for k in 0..count {
         put_block(image, out, h, version, way, count, k);
-        k += 1;
     }
 }
 
@@ -101,39 +99,35 @@ fn version_after(way: Way, rows: usize) -> u16
     }
 }
 
-fn move_image(image: &[u8], out: &mut [u8], way: Way) -> Saved
+fn move_image(image: &[u8], out: &mut [u8], way: Way) -> Result<usize, Refusal>
     ensures { saving result out.new ≡ move_of way image.now out.old }
 {
-    match judge::judge(image, wanted_by(way)) {
-        Verdict::Accepted => {
-            let size = image.len();
-            if out.len() < size {
-                return Saved::Unsaved(Refusal::ShortOutput);
-            }
-            let h = facts::read(image);
-            put_blocks(
-                image,
-                out,
-                h,
-                version_after(way, h.board.rows),
-                way,
-                size / block::BLOCK_SIZE,
-            );
-            Saved::Whole(size)
-        }
-        Verdict::Refused(r) => Saved::Unsaved(r),
+    judge::judge(image, wanted_by(way))?;
+    let size = image.len();
+    if out.len() < size {
+        return Err(Refusal::ShortOutput);
     }
+    let h = facts::read(image);
+    put_blocks(
+        image,
+        out,
+        h,
+        version_after(way, h.board.rows),
+        way,
+        size / block::BLOCK_SIZE,
+    );
+    Ok(size)
 }
 
 // An image of version 1 or 2 as version 3, to the front of `out`.
-pub fn forward(image: &[u8], out: &mut [u8]) -> Saved
+pub fn forward(image: &[u8], out: &mut [u8]) -> Result<usize, Refusal>
     ensures { saving result out.new ≡ move_of Forward image.now out.old }
 {
     move_image(image, out, Way::Forward)
 }
 
 // An image of version 3 as version 1 or 2 by its rows, to the front of `out`.
-pub fn back(image: &[u8], out: &mut [u8]) -> Saved
+pub fn back(image: &[u8], out: &mut [u8]) -> Result<usize, Refusal>
     ensures { saving result out.new ≡ move_of Back image.now out.old }
 {
     move_image(image, out, Way::Back)
@@ -141,16 +135,14 @@ pub fn back(image: &[u8], out: &mut [u8]) -> Saved
 
 // How many times of seen sides are known in the rows of an image.
 fn known_in(image: &[u8], used: usize) -> usize
-    requires { (verdict_of image.now ≡ Accepted) × (used ≡ (header_of image.now).board.rows) }
+    requires { (verdict_of image.now ≡ Ok tt) × (used ≡ (header_of image.now).board.rows) }
     ensures { result ≡ known_in used (rows_of image.now) }
 {
     let mut total = 0;
-    let mut k = 0;
-    while k < used {
+    for k in 0..used {
         let at = rows::place(pages::FIRST_PAGE, block::BLOCK_SIZE, k);
         let to = at + row::ROW_SIZE;
         total += row::moves::known_times(&image[at..to]);
-        k += 1;
     }
     total
 }
@@ -160,10 +152,10 @@ pub fn lost(image: &[u8]) -> usize
     ensures { result ≡ lost_of image.now }
 {
     match judge::judge(image, Wanted::Newest) {
-        Verdict::Accepted => {
+        Ok(()) => {
             let h = facts::read(image);
             known_in(image, h.board.rows)
         }
-        Verdict::Refused(_) => 0,
+        Err(_) => 0,
     }
 }

@@ -91,10 +91,8 @@ pub fn put_blocks(out: &mut [u8], h: Header, table: &[u8], count: usize)
     requires { (count * block_size ≤ length out.old) × (length table.now ≡ table_size) × (h.board.rows ≤ most_rows) × (count ≡ blocks_for h.board.rows) }
     ensures { out.new ≡ overlay out.old 0 (image_of h table.now) }
 {
-    let mut k = 0;
-    while k < count {
+    for k in 0..count {
         put_block(out, h, table, count, k);
-        k += 1;
     }
 }
 
@@ -103,8 +101,7 @@ pub fn take(image: &[u8], table: &mut [u8], n: usize)
     requires { (n * block_size + block_size ≤ length image.now) × (length table.old ≡ table_size) × (n < most_blocks) }
     ensures { table.new ≡ pages image.now first_page block_size n ++ replicate (table_size - n * body_size) 0 }
 {
-    let mut k = 0;
-    while k < n {
+    for k in 0..n {
         field::copy(
             image,
             FIRST_PAGE + k * block::BLOCK_SIZE,
@@ -112,7 +109,6 @@ pub fn take(image: &[u8], table: &mut [u8], n: usize)
             table,
             k * block::BODY_SIZE,
         );
-        k += 1;
     }
     field::fill(
         table,

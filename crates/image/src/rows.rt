@@ -20,14 +20,12 @@ fn each_keeps(s: &[u8], base: usize, stride: usize, version: u16, rows: usize) -
     requires { PagesIn s.now base stride (pages_for rows) }
     ensures { result ≡ all_below (good_row version (pages s.now base stride (pages_for rows))) rows }
 {
-    let mut k = 0;
-    while k < rows {
+    for k in 0..rows {
         let at = place(base, stride, k);
         let to = at + row::ROW_SIZE;
         if !row::rules::keep(version, &s[at..to]) {
             return false;
         }
-        k += 1;
     }
     true
 }
@@ -37,12 +35,10 @@ fn each_new(s: &[u8], base: usize, stride: usize, rows: usize, rising: &mut [u32
     requires { PagesIn s.now base stride (pages_for rows) × (rows ≤ length rising.old) }
     ensures { result ≡ all_below (own_id (pages s.now base stride (pages_for rows))) rows }
 {
-    let mut k = 0;
-    while k < rows {
-        if !ids::enter(rising, k, field::read4(s, place(base, stride, k))) {
+    for k in 0..rows {
+        if !ids::enter(rising, k, field::read::<u32>(s, place(base, stride, k))) {
             return false;
         }
-        k += 1;
     }
     true
 }

@@ -13,8 +13,8 @@ use Rattle.field.specs.Bytes.{part, overlay, digits, bytes_be}
 use Rattle.field.specs.Decimal.{chars, digit_chars, digit_count}
 use Rattle.field.proofs.Parts.{overlay-next, overlay-length, part-whole}
 use Rattle.field.proofs.Decimals.{chars-length}
-use Rattle.message.specs.declared.Price.{Price}
-use Rattle.message.specs.declared.Price.TheVariants.{Above, None}
+use Rattle.std.specs.Prelude.{Option}
+use Rattle.std.specs.Prelude.{Some, None}
 use Rattle.message.specs.declared.Side.{Side}
 use Rattle.message.specs.declared.Side.TheVariants.{Bid, Ask}
 use Rattle.row.specs.Fields.{row_size, id_of, state_of, sides_of, price_of, has_seen}
@@ -77,8 +77,8 @@ dollars-put xs at price {point} {us} {vs} {zs} h p f g =
     = put_then us point (46 ∷ []) (digit_chars 4 price) 1 4 (omega arith) (put_byte us point 46 (lit< tt) f) (g, (omega arith, omega arith)) in
     put_then xs at (chars (price / 10_000)) (46 ∷ digit_chars 4 price) 20 5 h p tail
 
-module _ (xs : List ℕ) (at : ℕ) (price : Price) where
-  pub above-put : (n : ℕ) {r : ℕ} {zs : List ℕ} → price ≡ Above n → Put xs at (dollars n) zs r 25 → Put xs at (price_text price) zs r 25
+module _ (xs : List ℕ) (at : ℕ) (price : Option ℕ) where
+  pub above-put : (n : ℕ) {r : ℕ} {zs : List ℕ} → price ≡ Some n → Put xs at (dollars n) zs r 25 → Put xs at (price_text price) zs r 25
   unfolding price_text
   above-put n e p = rw e p
 
@@ -109,11 +109,11 @@ module _ (xs : List ℕ) (at : ℕ) (side : Side) (r : List ℕ) {sides : ℕ} {
   unfolding side_text
   side-text y i = rw (← e, ← s, i)
 
-  pub side-put : {price : Price} {q : ℕ} {zs : List ℕ} → seen ≡ true → price ≡ price_of side r → Put us (at + 1) (price_text price) zs q 25
+  pub side-put : {price : Option ℕ} {q : ℕ} {zs : List ℕ} → seen ≡ true → price ≡ price_of side r → Put us (at + 1) (price_text price) zs q 25
       → Put xs at (side_text side r) zs q 26
   side-put {price} {q} {zs} y p g =
       put_as xs at (put_then xs at (32 ∷ []) (price_text price) 1 25 h (put_byte xs at 32 (lit< tt) f) g)
-      (ap (λ (x : Price). 32 ∷ price_text x) p ∙ sym (side-text true y)) refl (omega arith)
+      (ap (λ (x : Option ℕ). 32 ∷ price_text x) p ∙ sym (side-text true y)) refl (omega arith)
 
   pub unseen-put : {zs : List ℕ} → seen ≡ false → zs ≡ overlay us (at + 1) (bytes_be 1 45) → Put xs at (side_text side r) zs (at + 2) 26
   unseen-put {zs} y g =

@@ -8,8 +8,8 @@ use native.Mathlib.Omega.{arith}
 use lib.ListN.{length, length-append}
 use Rattle.field.specs.Decimal.{chars, digit_chars}
 use Rattle.field.proofs.Decimals.{chars-length}
-use Rattle.message.specs.declared.Price.{Price}
-use Rattle.message.specs.declared.Price.TheVariants.{Above, None}
+use Rattle.std.specs.Prelude.{Option}
+use Rattle.std.specs.Prelude.{Some, None}
 use Rattle.message.specs.declared.Side.{Side}
 use Rattle.row.specs.Fields.{sides_of, price_of, has_seen}
 use Rattle.listing.specs.Lines.{none_word, dash, dollars, price_text, side_text}
@@ -20,14 +20,14 @@ unfolding dollars
 long n = omega (arith, length-append (chars (n / 10_000)) (46 ∷ digit_chars 4 n), chars-length 4 n)
 
 -- the text of a price, by whether there is one
-is_none : (x : Price) → 32 ∷ price_text x ≡ 32 ∷ none_word → x ≡ None
+is_none : (x : Option ℕ) → 32 ∷ price_text x ≡ 32 ∷ none_word → x ≡ None
 unfolding price_text
-is_none (Above n) e = absurd (let l : length (32 ∷ dollars n) ≡ 5 = ap length e in omega (arith, long n))
+is_none (Some n) e = absurd (let l : length (32 ∷ dollars n) ≡ 5 = ap length e in omega (arith, long n))
 is_none None e = refl
 
-no-dash : (x : Price) → 32 ∷ price_text x ≡ 32 ∷ dash ∷ [] → ⊥
+no-dash : (x : Option ℕ) → 32 ∷ price_text x ≡ 32 ∷ dash ∷ [] → ⊥
 unfolding price_text
-no-dash (Above n) e = let l : length (32 ∷ dollars n) ≡ 2 = ap length e in omega (arith, long n)
+no-dash (Some n) e = let l : length (32 ∷ dollars n) ≡ 2 = ap length e in omega (arith, long n)
 no-dash None e = let l : ◌≡◌ {A = ℕ} 5 2 = ap length e in omega arith
 
 module _ (side : Side) (r : List ℕ) where

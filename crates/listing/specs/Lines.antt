@@ -3,8 +3,8 @@
 use Rattle.std.specs.Prelude.{ℕ, zero, suc, ◌+◌, ◌-◌, ◌/◌, ◌≤◌, Bool, ◌&&◌, cond, List, [], ◌∷◌, ◌++◌, eqb, leb, length, replicate}
 use Rattle.field.specs.Bytes.{overlay}
 use Rattle.field.specs.Decimal.{chars, digit_chars}
-use Rattle.message.specs.declared.Price.{Price}
-use Rattle.message.specs.declared.Price.TheVariants.{Above, None}
+use Rattle.std.specs.Prelude.{Option}
+use Rattle.std.specs.Prelude.{Some, None}
 use Rattle.message.specs.declared.Side.{Side}
 use Rattle.message.specs.declared.Side.TheVariants.{Bid, Ask}
 use Rattle.row.specs.Fields.{id_of, state_of, sides_of, price_of, has_seen}
@@ -54,8 +54,8 @@ dash = 45
 unfoldable pub dollars : ℕ → List ℕ
 dollars price = chars (price / 10_000) ++ (46 ∷ digit_chars 4 price)
 
-unfoldable pub price_text : Price → List ℕ
-price_text (Above n) = dollars n
+unfoldable pub price_text : Option ℕ → List ℕ
+price_text (Some n) = dollars n
 price_text None = none_word
 
 unfoldable pub state_text : List ℕ → List ℕ

@@ -8,7 +8,7 @@ ghost use Rattle.row.specs.Fields.{row_size};
 ghost use Rattle.table.specs.Memory.{Fitting};
 ghost use Rattle.listing.specs.Lines.{ending_of, line_end, next_line, dash, dollars, price_text, state_text, side_text, row_line, last_line, line_in, line_size, Short, shown_of};
 
-use message::{Price, Side};
+use message::{Side};
 use row::fields;
 
 // No line is longer.
@@ -72,20 +72,20 @@ fn put_dollars(out: &mut [u8], at: usize, price: u32) -> usize
 {
     let whole = price as u64;
     let point = number(out, at, whole / 10000);
-    field::write1(out, point, b'.');
+    field::write::<u8>(out, point, b'.');
     field::decimal::write_digits(out, point + 1, 4, whole);
     point + 5
 }
 
 // `none` where there is no price, which is not `-`, a side that was never seen.
-fn put_price(out: &mut [u8], at: usize, price: Price) -> usize
+fn put_price(out: &mut [u8], at: usize, price: Option<u32>) -> usize
     requires { at + 25 ≤ length out.old }
     ensures out_after { out.new ≡ overlay out.old at (price_text price) }
     ensures value { (result ≡ at + length (price_text price)) × (result ≤ at + 25) }
 {
     match price {
-        Price::Above(n) => put_dollars(out, at, n),
-        Price::None => {
+        Some(n) => put_dollars(out, at, n),
+        None => {
             field::copy(b"none", 0, 4, out, at);
             at + 4
         }
@@ -107,8 +107,8 @@ fn put_state(out: &mut [u8], at: usize, row: &[u8]) -> usize
     ensures value { (result ≡ at + length (state_text row.now)) × (result ≤ at + 2) }
 {
     let state = state_mark(fields::state(row));
-    field::write1(out, at, b' ');
-    field::write1(out, at + 1, state);
+    field::write::<u8>(out, at, b' ');
+    field::write::<u8>(out, at + 1, state);
     at + 2
 }
 
@@ -119,11 +119,11 @@ fn put_side(out: &mut [u8], at: usize, row: &[u8], side: Side) -> usize
 {
     let seen = fields::has_seen(side, fields::sides(row));
     let price = fields::price(row, side);
-    field::write1(out, at, b' ');
+    field::write::<u8>(out, at, b' ');
     if seen {
         return put_price(out, at + 1, price);
     }
-    field::write1(out, at + 1, b'-');
+    field::write::<u8>(out, at + 1, b'-');
     at + 2
 }
 
@@ -137,7 +137,7 @@ fn row_line(row: &[u8], out: &mut [u8]) -> usize
     let bid = put_state(out, state, row);
     let ask = put_side(out, bid, row, Side::Bid);
     let end = put_side(out, ask, row, Side::Ask);
-    field::write1(out, end, b'\n');
+    field::write::<u8>(out, end, b'\n');
     end + 1
 }
 
@@ -150,7 +150,7 @@ fn word_and_number(word: &[u8], v: u64, out: &mut [u8]) -> usize
     let n = word.len();
     field::copy(word, 0, n, out, 0);
     let end = number(out, n, v);
-    field::write1(out, end, b'\n');
+    field::write::<u8>(out, end, b'\n');
     end + 1
 }
 
@@ -162,7 +162,7 @@ fn word_alone(word: &[u8], out: &mut [u8]) -> usize
 {
     let n = word.len();
     field::copy(word, 0, n, out, 0);
-    field::write1(out, n, b'\n');
+    field::write::<u8>(out, n, b'\n');
     n + 1
 }
 

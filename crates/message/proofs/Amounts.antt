@@ -9,10 +9,9 @@ use lib.Dec.{eqb, leb}
 use Rattle.field.specs.Limits.{price_in_range}
 use Rattle.message.specs.Layout.{price_from, amount, is_price, priced, price, holds}
 use Rattle.message.specs.Letters.{anything, short_price, long_price}
-use Rattle.message.specs.declared.Price.{Price}
-use Rattle.message.specs.declared.Price.TheVariants.{Above, None}
-use Rattle.message.specs.declared.ShortPrice.{ShortPrice}
-use Rattle.message.specs.declared.ShortPrice.TheVariants as short
+use Rattle.std.specs.Prelude.{Option}
+use Rattle.std.specs.Prelude.{Some, None}
+use Rattle.std.specs.declared.option.Option.TheVariants as short
 
 -- ---- what a number says
 
@@ -21,16 +20,16 @@ module _ (n : ℕ) where
   unfolding price_from
   none_from e = rw (eq-eqb n 0 e)
 
-  pub above_from : (n ≡ 0 → ⊥) → Above n ≡ price_from n
+  pub above_from : (n ≡ 0 → ⊥) → Some n ≡ price_from n
   unfolding price_from
   above_from h = rw (ne_eqb n 0 h)
 
   -- a rule of the price that a number says, by whether it is zero
-  by_number : (P : Price → Type 0) → (n ≡ 0 → P None) → ((n ≡ 0 → ⊥) → P (Above n)) → P (price_from n)
+  by_number : (P : Option ℕ → Type 0) → (n ≡ 0 → P None) → ((n ≡ 0 → ⊥) → P (Some n)) → P (price_from n)
   unfolding price_from
   by_number P zero above = by (eqb n 0) refl
     where
-      by : (b : Bool) → eqb n 0 ≡ b → P (cond b None (Above n))
+      by : (b : Bool) → eqb n 0 ≡ b → P (cond b None (Some n))
       by true e = zero (eqb-true n 0 e)
       by false e = above (eqb-false n 0 e)
 
@@ -41,31 +40,31 @@ module _ (n : ℕ) where
   pub from-is-price : is_price (price_from n) ≡ true
   from-is-price = by_number (λ x. is_price x ≡ true) (λ e. refl) (λ h. le-leb 1 n (omega arith))
 
-pub from-amount : (x : Price) → is_price x ≡ true → price_from (amount x) ≡ x
+pub from-amount : (x : Option ℕ) → is_price x ≡ true → price_from (amount x) ≡ x
 unfolding price_from
-from-amount (Above n) h = rw (ne_eqb n 0 (λ e. omega (arith, leb-true 1 n h)))
+from-amount (Some n) h = rw (ne_eqb n 0 (λ e. omega (arith, leb-true 1 n h)))
 from-amount None h = refl
 
 -- ---- a short side's price
 
-pub long-back : (x : Price) → long_price (short_price x) ≡ x
-long-back (Above n) = refl
+pub long-back : (x : Option ℕ) → long_price (short_price x) ≡ x
+long-back (Some n) = refl
 long-back None = refl
 
-pub short_back : (x : ShortPrice) → short_price (long_price x) ≡ x
-short_back (short.Above n) = refl
+pub short_back : (x : Option ℕ) → short_price (long_price x) ≡ x
+short_back (short.Some n) = refl
 short_back short.None = refl
 
 -- ---- the rule of a price that a record holds
 
-pub above-keeps : (x : Price) (n : ℕ) {r : Bool} → x ≡ Above n → r ≡ price_in_range n → leb 1 n && r ≡ holds (price price_in_range) (priced x)
+pub above-keeps : (x : Option ℕ) (n : ℕ) {r : Bool} → x ≡ Some n → r ≡ price_in_range n → leb 1 n && r ≡ holds (price price_in_range) (priced x)
 above-keeps x n e p = rw (e, p)
 
-pub none-keeps : (x : Price) → x ≡ None → true ≡ holds (price price_in_range) (priced x)
+pub none-keeps : (x : Option ℕ) → x ≡ None → true ≡ holds (price price_in_range) (priced x)
 none-keeps x e = rw e
 
-pub short-above-keeps : (x : ShortPrice) (n : ℕ) → x ≡ short.Above n → leb 1 n ≡ holds (price anything) (priced (long_price x))
+pub short-above-keeps : (x : Option ℕ) (n : ℕ) → x ≡ short.Some n → leb 1 n ≡ holds (price anything) (priced (long_price x))
 short-above-keeps x n e = rw (e, and-true (leb 1 n))
 
-pub short-none-keeps : (x : ShortPrice) → x ≡ short.None → true ≡ holds (price anything) (priced (long_price x))
+pub short-none-keeps : (x : Option ℕ) → x ≡ short.None → true ≡ holds (price anything) (priced (long_price x))
 short-none-keeps x e = rw e

@@ -12,8 +12,8 @@ use Rattle.message.specs.Letters.{anything, listed, letters, no_texts}
 use Rattle.message.specs.Message.{accepted, refused, read_of, bytes_of, keeps, outcome, write_of}
 use Rattle.message.specs.declared.Message.{Message}
 use Rattle.message.specs.declared.Message.TheVariants as message
-use Rattle.message.specs.declared.ShortPrice.{ShortPrice}
-use Rattle.message.specs.declared.ShortPrice.TheVariants.{Above, None}
+use Rattle.std.specs.Prelude.{Option}
+use Rattle.std.specs.Prelude.{Some, None}
 use Rattle.message.specs.declared.Side.TheVariants.{Bid}
 use Rattle.message.specs.declared.Written.TheVariants.{Unwritten}
 use Rattle.message.specs.declared.WriteRefusal.TheVariants.{BrokenRecord}
@@ -50,7 +50,7 @@ unfolding read_of bytes_read letter_read letters letter_among
 one-short = refl
 
 -- a bid for id 7: of 125 pennies, and of none
-bid : ShortPrice → Message
+bid : Option ℕ → Message
 bid p =
     message.ShortSide
     (record {
@@ -64,7 +64,7 @@ bid p =
 bid_bytes : ℕ → List ℕ
 bid_bytes pennies = 98 ∷ (replicate 13 0 ++ (7 ∷ 32 ∷ 0 ∷ 0 ∷ 0 ∷ pennies ∷ replicate 6 0))
 
-read-bid : read_of (bid_bytes 125) ≡ accepted (bid (Above 125)) no_texts
+read-bid : read_of (bid_bytes 125) ≡ accepted (bid (Some 125)) no_texts
 unfolding bid bid_bytes read_of bytes_read letter_read fields_read letters letter_among values keeps_all price_from listed part value
 read-bid = refl
 
@@ -73,11 +73,11 @@ unfolding bid bid_bytes read_of bytes_read letter_read fields_read letters lette
 read_none = refl
 
 -- zero held as a price above zero is not written, to output of any length, though its bytes would be those of none
-zero-broken : (out : List ℕ) → write_of (bid (Above 0)) no_texts out ≡ outcome (Unwritten BrokenRecord) out
+zero-broken : (out : List ℕ) → write_of (bid (Some 0)) no_texts out ≡ outcome (Unwritten BrokenRecord) out
 unfolding bid write_of keeps keeps_all listed
 zero-broken out = refl
 
-same_bytes : bytes_of (bid (Above 0)) no_texts ≡ bytes_of (bid None) no_texts
+same_bytes : bytes_of (bid (Some 0)) no_texts ≡ bytes_of (bid None) no_texts
 unfolding bid bytes_of bytes_for digits
 same_bytes = refl
 

@@ -12,8 +12,8 @@ use lib.Seq.{take_at, drop_at, drop-drop}
 use Rattle.field.specs.Bytes.{part, be, bytes_be, Bytes}
 use Rattle.field.specs.Limits.{number_in_range, highest_number}
 use Rattle.field.specs.Decimal.{number_before_spaces, chars_then_spaces}
-use Rattle.field.specs.declared.decimal.Number.{Number}
-use Rattle.field.specs.declared.decimal.Number.TheVariants.{Is, Bad}
+use Rattle.std.specs.Prelude.{Option}
+use Rattle.std.specs.Prelude.{Some, None}
 use Rattle.field.proofs.Parts.{part_length, part_none, part-split, part-part}
 use Rattle.field.proofs.Numbers.{digits-length, digits_value, value-digits, part_bytes}
 use Rattle.field.proofs.Bools.{both_left, both_right}
@@ -34,7 +34,7 @@ pub value-back : (r : Rule) (w : ℕ) (v : Value) → FitsIn r w v → holds r v
 value-back (binary p) w (num n) f h = ap num (value-digits 256 (lit< tt) w n f)
 value-back (binary p) w (raw b) f h = absurd f
 value-back (binary p) w (priced x) f h = absurd f
-value-back decimal w (num n) f h = ap (λ (x : Number). num (or_zero x)) (before_of w n (in-range n h).0 (in-range n h).1)
+value-back decimal w (num n) f h = ap (λ (x : Option ℕ). num (or_zero x)) (before_of w n (in-range n h).0 (in-range n h).1)
 value-back decimal w (raw b) f h = absurd f
 value-back decimal w (priced x) f h = absurd f
 value-back text w (num n) f h = absurd f
@@ -77,9 +77,9 @@ pub bytes_back : (r : Rule) (w : ℕ) (b : List ℕ) → length b ≡ w → Byte
 bytes_back (binary p) w b e s h = number-back w b e s
 bytes_back decimal w b e s h = by (number_before_spaces b) refl h
   where
-    by : (x : Number) → number_before_spaces b ≡ x → number_in_range (or_zero x) ≡ true → chars_then_spaces w (or_zero x) ≡ b
-    by (Is n) i k = rw e at (of-before b n i)
-    by Bad i k = never k
+    by : (x : Option ℕ) → number_before_spaces b ≡ x → number_in_range (or_zero x) ≡ true → chars_then_spaces w (or_zero x) ≡ b
+    by (Some n) i k = rw e at (of-before b n i)
+    by None i k = never k
 bytes_back text w b e s h = refl
 bytes_back bytes w b e s h = refl
 bytes_back (price p) w b e s h = price-back w b e s

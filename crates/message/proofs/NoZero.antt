@@ -12,8 +12,8 @@ use Rattle.message.specs.Letters.{listed, anything, conditions, long_price, pric
 use Rattle.message.specs.Message.{accepted, read_of, keeps, outcome, write_of}
 use Rattle.message.specs.declared.Message.{Message}
 use Rattle.message.specs.declared.Message.TheVariants as message
-use Rattle.message.specs.declared.Price.{Price}
-use Rattle.message.specs.declared.Price.TheVariants.{Above}
+use Rattle.std.specs.Prelude.{Option}
+use Rattle.std.specs.Prelude.{Some}
 use Rattle.message.specs.declared.Texts.{Texts}
 use Rattle.message.specs.declared.Written.TheVariants.{Unwritten}
 use Rattle.message.specs.declared.WriteRefusal.TheVariants.{BrokenRecord}
@@ -22,14 +22,14 @@ use Rattle.message.proofs.Rounds.{write_read}
 use Rattle.message.proofs.Ways.{write-broken, side-rules, quote-rules}
 
 -- a price that keeps its rule, whatever else is asked of its number
-kept_above : (x : Price) (p : ℕ → Bool) → holds (price p) (priced x) ≡ true → x ≡ Above 0 → ⊥
+kept_above : (x : Option ℕ) (p : ℕ → Bool) → holds (price p) (priced x) ≡ true → x ≡ Some 0 → ⊥
 kept_above x p k e = never (sym (ap is_price e) ∙ both_left (is_price x) (p (amount x)) k)
 
 -- the prices of a quote that keeps its rules, one or two
-one : (a b : Bool) (p : ℕ → Bool) (x : Price) → a && (b && (holds (price p) (priced x) && true)) ≡ true → NoZero (x ∷ [])
+one : (a b : Bool) (p : ℕ → Bool) (x : Option ℕ) → a && (b && (holds (price p) (priced x) && true)) ≡ true → NoZero (x ∷ [])
 one a b p x e = (kept_above x p (side-rules a b (holds (price p) (priced x)) e).2, tt)
 
-two : (a b : Bool) (p : ℕ → Bool) (x y : Price) → a && (b && (holds (price p) (priced x) && (holds (price p) (priced y) && true))) ≡ true → NoZero (x ∷ y ∷ [])
+two : (a b : Bool) (p : ℕ → Bool) (x y : Option ℕ) → a && (b && (holds (price p) (priced x) && (holds (price p) (priced y) && true))) ≡ true → NoZero (x ∷ y ∷ [])
 two a b p x y e =
     let r = quote-rules a b (holds (price p) (priced x)) (holds (price p) (priced y)) e in
     (kept_above x p r.2, (kept_above y p r.3, tt))

@@ -12,8 +12,8 @@ use Rattle.field.specs.Bytes.{part, be, Bytes}
 use Rattle.field.specs.Limits.{number_in_range}
 use Rattle.field.specs.Text.{within, every}
 use Rattle.field.specs.Decimal.{number_before_spaces, chars_then_spaces, chars, digit_count}
-use Rattle.field.specs.declared.decimal.Number.{Number}
-use Rattle.field.specs.declared.decimal.Number.TheVariants as number
+use Rattle.std.specs.Prelude.{Option}
+use Rattle.std.specs.declared.option.Option.TheVariants as option
 use Rattle.field.proofs.Bools.{both_left, both_right}
 use Rattle.field.proofs.Numbers.{part-below}
 use Rattle.field.proofs.Parts.{part_length}
@@ -40,10 +40,10 @@ inside n [] = true
 inside n (r ∷ rs) = leb (r.at + r.width) n && inside n rs
 
 -- characters that write a number have room for its digits
-decimal-fits : (f : List ℕ) (w : ℕ) → length f ≡ w → (x : Number) → number_before_spaces f ≡ x → number_in_range (or_zero x) ≡ true → digit_count (or_zero x) ≤ w
+decimal-fits : (f : List ℕ) (w : ℕ) → length f ≡ w → (x : Option ℕ) → number_before_spaces f ≡ x → number_in_range (or_zero x) ≡ true → digit_count (or_zero x) ≤ w
 unfolding chars_then_spaces chars
-decimal-fits f w l (number.Is n) e h = omega (arith, simp (length-append, chars-length, length-replicate) at (ap length (of-before f n e)))
-decimal-fits f w l number.Bad e h = never h
+decimal-fits f w l (option.Some n) e h = omega (arith, simp (length-append, chars-length, length-replicate) at (ap length (of-before f n e)))
+decimal-fits f w l option.None e h = never h
 
 pub value-fits : (r : Row) (bs : List ℕ) → Bytes bs → r.at + r.width ≤ length bs → holds r.rule (value_in r.rule (part bs r.at r.width)) ≡ true
     → FitsIn r.rule r.width (value_in r.rule (part bs r.at r.width))

@@ -12,8 +12,8 @@ use Rattle.field.specs.Bytes.{part, overlay}
 use Rattle.field.specs.Limits.{time_in_range}
 use Rattle.field.specs.Text.{is_text}
 use Rattle.field.specs.Decimal.{number_before_spaces}
-use Rattle.field.specs.declared.decimal.Number.{Number}
-use Rattle.field.specs.declared.decimal.Number.TheVariants as number
+use Rattle.std.specs.Prelude.{Option}
+use Rattle.std.specs.declared.option.Option.TheVariants as option
 use Rattle.field.proofs.Bools.{both_left, both_right}
 use Rattle.field.proofs.Parts.{part_length, part-whole, overlay-whole}
 use Rattle.message.specs.Layout.{Value, Row, values, keeps_all}
@@ -103,12 +103,12 @@ module _ (m : Message) (t : Texts) (out : List ℕ) (ok : Bool) (po : ok ≡ kee
 
 -- ---- what is taken from the bytes
 
-pub number-taken : (bs : List ℕ) (n : ℕ) {x : Number} → x ≡ number_before_spaces (part bs 1 20) → x ≡ number.Is n
+pub number-taken : (bs : List ℕ) (n : ℕ) {x : Option ℕ} → x ≡ number_before_spaces (part bs 1 20) → x ≡ option.Some n
     → ◌≡◌ {A = EndOfReplay} (record { number = n }) (end_of_replay_of (values end_of_replay_rows bs))
 unfolding values
 number-taken bs n p q = rw (← p, q)
 
-pub no-number-taken : (bs : List ℕ) {x : Number} → x ≡ number_before_spaces (part bs 1 20) → x ≡ number.Bad
+pub no-number-taken : (bs : List ℕ) {x : Option ℕ} → x ≡ number_before_spaces (part bs 1 20) → x ≡ option.None
     → ◌≡◌ {A = EndOfReplay} (record { number = 0 }) (end_of_replay_of (values end_of_replay_rows bs))
 unfolding values
 no-number-taken bs p q = rw (← p, q)

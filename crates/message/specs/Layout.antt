@@ -5,25 +5,23 @@ use Rattle.field.specs.Bytes.{part, be, bytes_be}
 use Rattle.field.specs.Limits.{number_in_range}
 use Rattle.field.specs.Text.{is_text}
 use Rattle.field.specs.Decimal.{number_before_spaces, chars_then_spaces, digit_count}
-use Rattle.field.specs.declared.decimal.Number.{Number}
-use Rattle.field.specs.declared.decimal.Number.TheVariants.{Is, Bad}
-use Rattle.message.specs.declared.Price.{Price}
-use Rattle.message.specs.declared.Price.TheVariants.{Above, None}
+use Rattle.std.specs.Prelude.{Option}
+use Rattle.std.specs.Prelude.{Some, None}
 
 -- ---- a price is a number above zero, or none (W-206)
 
 -- the price that a number in bytes says: 0 says none
-unfoldable pub price_from : ℕ → Price
-price_from n = cond (eqb n 0) None (Above n)
+unfoldable pub price_from : ℕ → Option ℕ
+price_from n = cond (eqb n 0) None (Some n)
 
 -- the number that says a price
-abbrev pub amount : Price → ℕ
-amount (Above n) = n
+abbrev pub amount : Option ℕ → ℕ
+amount (Some n) = n
 amount None = 0
 
 -- zero held as a price above zero is no price
-abbrev pub is_price : Price → Bool
-is_price (Above n) = leb 1 n
+abbrev pub is_price : Option ℕ → Bool
+is_price (Some n) = leb 1 n
 is_price None = true
 
 -- ---- values and rules
@@ -32,7 +30,7 @@ is_price None = true
 pub data Value : Type 0 where
   num : ℕ → Value
   raw : List ℕ → Value
-  priced : Price → Value
+  priced : Option ℕ → Value
 
 -- the value at a place of a list
 abbrev pub as_number : Value → ℕ
@@ -45,7 +43,7 @@ as_bytes (num n) = []
 as_bytes (raw f) = f
 as_bytes (priced x) = []
 
-abbrev pub as_price : Value → Price
+abbrev pub as_price : Value → Option ℕ
 as_price (num n) = None
 as_price (raw f) = None
 as_price (priced x) = x
@@ -56,7 +54,7 @@ number_at vs i = as_number (get_or vs i (num 0))
 abbrev pub bytes_at : List Value → ℕ → List ℕ
 bytes_at vs i = as_bytes (get_or vs i (raw []))
 
-abbrev pub price_at : List Value → ℕ → Price
+abbrev pub price_at : List Value → ℕ → Option ℕ
 price_at vs i = as_price (get_or vs i (priced None))
 
 -- how a field is written, and what it may hold
@@ -78,9 +76,9 @@ row at width rule = record { at = at; width = width; rule = rule }
 -- ---- one field
 
 -- characters that write no number say 0, which no field of that rule may hold
-abbrev pub or_zero : Number → ℕ
-or_zero (Is n) = n
-or_zero Bad = 0
+abbrev pub or_zero : Option ℕ → ℕ
+or_zero (Some n) = n
+or_zero None = 0
 
 abbrev pub value_in : Rule → List ℕ → Value
 value_in (binary p) f = num (be f)

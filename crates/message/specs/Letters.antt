@@ -9,10 +9,8 @@ use Rattle.message.specs.Feed.{Letter, letter_among}
 use Rattle.message.specs.declared.Stamp.{Stamp}
 use Rattle.message.specs.declared.Side.{Side}
 use Rattle.message.specs.declared.Side.TheVariants.{Bid, Ask}
-use Rattle.message.specs.declared.Price.{Price}
-use Rattle.message.specs.declared.Price.TheVariants as long
-use Rattle.message.specs.declared.ShortPrice.{ShortPrice}
-use Rattle.message.specs.declared.ShortPrice.TheVariants as short
+use Rattle.std.specs.Prelude.{Option}
+use Rattle.std.specs.declared.option.Option.TheVariants as long
 use Rattle.message.specs.declared.ShortNumbers.{ShortNumbers}
 use Rattle.message.specs.declared.LongNumbers.{LongNumbers}
 use Rattle.message.specs.declared.SystemEvent.{SystemEvent}
@@ -209,13 +207,13 @@ abbrev pub trading_action_fields : TradingAction → List Value
 trading_action_fields m = stamp_fields m.stamp ++ (num m.id ∷ num m.state ∷ [])
 
 -- a price as a short side holds it, and back
-abbrev pub short_price : Price → ShortPrice
-short_price (long.Above n) = short.Above n
-short_price long.None = short.None
+abbrev pub short_price : Option ℕ → Option ℕ
+short_price (long.Some n) = long.Some n
+short_price long.None = long.None
 
-abbrev pub long_price : ShortPrice → Price
-long_price (short.Above n) = long.Above n
-long_price short.None = long.None
+abbrev pub long_price : Option ℕ → Option ℕ
+long_price (long.Some n) = long.Some n
+long_price long.None = long.None
 
 abbrev pub short_numbers_of : List Value → ShortNumbers
 short_numbers_of vs =
@@ -320,7 +318,7 @@ abbrev pub no_texts : Texts
 no_texts = record { symbol = replicate 8 0; underlying = replicate 13 0; reserved = replicate 16 0 }
 
 -- the prices that a message holds; a strike is a number
-abbrev pub prices_of : Message → List Price
+abbrev pub prices_of : Message → List (Option ℕ)
 prices_of (message.SystemEvent m) = []
 prices_of (message.Directory m) = []
 prices_of (message.TradingAction m) = []
@@ -331,9 +329,9 @@ prices_of (message.LongSide m) = m.numbers.price ∷ []
 prices_of (message.EndOfReplay m) = []
 
 -- zero is held as a price above zero by none of them
-abbrev pub NoZero : List Price → Type 0
+abbrev pub NoZero : List (Option ℕ) → Type 0
 NoZero [] = Unit
-NoZero (x ∷ xs) = (x ≡ long.Above 0 → ⊥) × NoZero xs
+NoZero (x ∷ xs) = (x ≡ long.Some 0 → ⊥) × NoZero xs
 
 -- ---- THE TEN LETTERS, each with its exact length
 

@@ -14,15 +14,15 @@ pub fn instrument(entry: &[u8]) -> Instrument
     ensures { result ≡ instrument_of (values entry_rows entry.now) }
 {
     Instrument {
-        id: field::read4(entry, 0),
-        year: field::read1(entry, 12),
-        month: field::read1(entry, 13),
-        day: field::read1(entry, 14),
-        strike: field::read4(entry, 15),
-        kind: field::read1(entry, 19),
-        closing: field::read1(entry, 33),
-        tradable: field::read1(entry, 34),
-        variation: field::read1(entry, 35),
+        id: field::read::<u32>(entry, 0),
+        year: field::read::<u8>(entry, 12),
+        month: field::read::<u8>(entry, 13),
+        day: field::read::<u8>(entry, 14),
+        strike: field::read::<u32>(entry, 15),
+        kind: field::read::<u8>(entry, 19),
+        closing: field::read::<u8>(entry, 33),
+        tradable: field::read::<u8>(entry, 34),
+        variation: field::read::<u8>(entry, 35),
     }
 }
 
@@ -114,8 +114,8 @@ fn terms(out: &mut [u8], m: Instrument, t: Texts)
     let date = [m.year, m.month, m.day];
     symbol(out, t);
     field::copy(&date, 0, 3, out, 12);
-    field::write4(out, 15, m.strike);
-    field::write1(out, 19, m.kind);
+    field::write::<u32>(out, 15, m.strike);
+    field::write::<u8>(out, 19, m.kind);
 }
 
 // The fields that may change: underlying, closing, tradable, variation and reserved.
@@ -136,7 +136,7 @@ pub fn put(out: &mut [u8], m: Instrument, t: Texts)
     requires { entry_size ≤ length out.old }
     ensures { out.new ≡ overlay out.old 0 (bytes_for instrument_rows (instrument_fields m t)) }
 {
-    field::write4(out, 0, m.id);
+    field::write::<u32>(out, 0, m.id);
     terms(out, m, t);
     market(out, m, t);
 }
@@ -162,14 +162,14 @@ pub fn keep_at(
     if !text::is_text(whole, underlying, 13) {
         return false;
     }
-    is_within(0, 99, field::read1(whole, date))
-        & (is_within(1, 12, field::read1(whole, date + 1))
-            & (is_within(1, 31, field::read1(whole, date + 2))
+    is_within(0, 99, field::read::<u8>(whole, date))
+        & (is_within(1, 12, field::read::<u8>(whole, date + 1))
+            & (is_within(1, 31, field::read::<u8>(whole, date + 2))
                 & (limits::price_keeps(whole, strike)
-                    & (codes::is_type(field::read1(whole, kind))
-                        & (codes::is_closing(field::read1(whole, marks))
-                            & (codes::is_tradable(field::read1(whole, marks + 1))
-                                & codes::is_variation(field::read1(whole, marks + 2))))))))
+                    & (codes::is_type(field::read::<u8>(whole, kind))
+                        & (codes::is_closing(field::read::<u8>(whole, marks))
+                            & (codes::is_tradable(field::read::<u8>(whole, marks + 1))
+                                & codes::is_variation(field::read::<u8>(whole, marks + 2))))))))
 }
 
 // The rules of an instrument, tested where its bytes lie.

@@ -30,24 +30,12 @@ pub enum Side {
 }
 
 // What a side bids or asks: a price above zero, in ten-thousandths of a dollar, or none. Zero is no price above zero.
-#[derive(Clone, Copy)]
-pub enum Price {
-    Above(u32),
-    None,
-}
-
 // The same for a short side, in pennies.
-#[derive(Clone, Copy)]
-pub enum ShortPrice {
-    Above(u16),
-    None,
-}
-
 // One side of a quote in two bytes each: the price is in pennies.
 #[derive(Clone, Copy)]
 pub struct ShortNumbers {
     pub market: u16,
-    pub price: ShortPrice,
+    pub price: Option<u16>,
     pub size: u16,
     pub customer: u16,
     pub professional: u16,
@@ -57,7 +45,7 @@ pub struct ShortNumbers {
 #[derive(Clone, Copy)]
 pub struct LongNumbers {
     pub market: u32,
-    pub price: Price,
+    pub price: Option<u32>,
     pub size: u32,
     pub customer: u32,
     pub professional: u32,

@@ -11,11 +11,11 @@ pub fn short(bytes: &[u8], at: usize) -> ShortNumbers
     ensures { result ≡ short_numbers_of (values (short_numbers_rows at) bytes.now) }
 {
     ShortNumbers {
-        market: field::read2(bytes, at),
-        price: prices::short(field::read2(bytes, at + 2)),
-        size: field::read2(bytes, at + 4),
-        customer: field::read2(bytes, at + 6),
-        professional: field::read2(bytes, at + 8),
+        market: field::read::<u16>(bytes, at),
+        price: prices::short(field::read::<u16>(bytes, at + 2)),
+        size: field::read::<u16>(bytes, at + 4),
+        customer: field::read::<u16>(bytes, at + 6),
+        professional: field::read::<u16>(bytes, at + 8),
     }
 }
 
@@ -24,11 +24,11 @@ pub fn long(bytes: &[u8], at: usize) -> LongNumbers
     ensures { result ≡ long_numbers_of (values (long_numbers_rows at) bytes.now) }
 {
     LongNumbers {
-        market: field::read4(bytes, at),
-        price: prices::long(field::read4(bytes, at + 4)),
-        size: field::read4(bytes, at + 8),
-        customer: field::read4(bytes, at + 12),
-        professional: field::read4(bytes, at + 16),
+        market: field::read::<u32>(bytes, at),
+        price: prices::long(field::read::<u32>(bytes, at + 4)),
+        size: field::read::<u32>(bytes, at + 8),
+        customer: field::read::<u32>(bytes, at + 12),
+        professional: field::read::<u32>(bytes, at + 16),
     }
 }
 
@@ -37,11 +37,11 @@ pub fn put_short(out: &mut [u8], at: usize, n: ShortNumbers)
     ensures { out.new ≡ overlay out.old at (bytes_for (short_numbers_rows at) (short_numbers_fields n)) }
 {
     let price = n.price;
-    field::write2(out, at, n.market);
-    field::write2(out, at + 2, prices::pennies(price));
-    field::write2(out, at + 4, n.size);
-    field::write2(out, at + 6, n.customer);
-    field::write2(out, at + 8, n.professional);
+    field::write::<u16>(out, at, n.market);
+    field::write::<u16>(out, at + 2, prices::pennies(price));
+    field::write::<u16>(out, at + 4, n.size);
+    field::write::<u16>(out, at + 6, n.customer);
+    field::write::<u16>(out, at + 8, n.professional);
 }
 
 pub fn put_long(out: &mut [u8], at: usize, n: LongNumbers)
@@ -49,11 +49,11 @@ pub fn put_long(out: &mut [u8], at: usize, n: LongNumbers)
     ensures { out.new ≡ overlay out.old at (bytes_for (long_numbers_rows at) (long_numbers_fields n)) }
 {
     let price = n.price;
-    field::write4(out, at, n.market);
-    field::write4(out, at + 4, prices::amount(price));
-    field::write4(out, at + 8, n.size);
-    field::write4(out, at + 12, n.customer);
-    field::write4(out, at + 16, n.professional);
+    field::write::<u32>(out, at, n.market);
+    field::write::<u32>(out, at + 4, prices::amount(price));
+    field::write::<u32>(out, at + 8, n.size);
+    field::write::<u32>(out, at + 12, n.customer);
+    field::write::<u32>(out, at + 16, n.professional);
 }
 
 // The 20 bytes of a side from one place to another, with no number taken.
@@ -61,7 +61,7 @@ pub fn carry_long(bytes: &[u8], from: usize, out: &mut [u8], at: usize)
     requires { (from + 20 ≤ length bytes.now) × (at + 20 ≤ length out.old) }
     ensures { out.new ≡ overlay out.old at (bytes_for (long_numbers_rows at) (long_numbers_fields (long_numbers_of (values (long_numbers_rows from) bytes.now)))) }
 {
-    field::copy8(bytes, from, out, at);
-    field::copy8(bytes, from + 8, out, at + 8);
-    field::copy4(bytes, from + 16, out, at + 16);
+    field::carry::<8>(bytes, from, out, at);
+    field::carry::<8>(bytes, from + 8, out, at + 8);
+    field::carry::<4>(bytes, from + 16, out, at + 16);
 }

@@ -4,42 +4,42 @@ ghost use Rattle.field.specs.Limits.{price_in_range};
 ghost use Rattle.message.specs.Layout.{price_from, amount, priced, price, holds};
 ghost use Rattle.message.specs.Letters.{anything, short_price, long_price};
 
-use crate::{LongNumbers, Price, ShortNumbers, ShortPrice};
+use crate::{LongNumbers, ShortNumbers};
 use field::limits;
 
-pub fn long(n: u32) -> Price
+pub fn long(n: u32) -> Option<u32>
     ensures { result ≡ price_from n }
 {
     if n == 0 {
-        return Price::None;
+        return None;
     }
-    Price::Above(n)
+    Some(n)
 }
 
-pub fn short(n: u16) -> ShortPrice
+pub fn short(n: u16) -> Option<u16>
     ensures { result ≡ short_price (price_from n) }
 {
     if n == 0 {
-        return ShortPrice::None;
+        return None;
     }
-    ShortPrice::Above(n)
+    Some(n)
 }
 
-pub fn amount(p: Price) -> u32
+pub fn amount(p: Option<u32>) -> u32
     ensures { result ≡ amount p }
 {
     match p {
-        Price::Above(n) => n,
-        Price::None => 0,
+        Some(n) => n,
+        None => 0,
     }
 }
 
-pub fn pennies(p: ShortPrice) -> u16
+pub fn pennies(p: Option<u16>) -> u16
     ensures { result ≡ amount (long_price p) }
 {
     match p {
-        ShortPrice::Above(n) => n,
-        ShortPrice::None => 0,
+        Some(n) => n,
+        None => 0,
     }
 }
 
@@ -49,8 +49,8 @@ pub fn keep_long(side: LongNumbers) -> bool
 {
     let price = side.price;
     match price {
-        Price::Above(n) => (1 <= n) & limits::price_in_range(n),
-        Price::None => true,
+        Some(n) => (1 <= n) & limits::price_in_range(n),
+        None => true,
     }
 }
 
@@ -60,7 +60,7 @@ pub fn keep_short(side: ShortNumbers) -> bool
 {
     let price = side.price;
     match price {
-        ShortPrice::Above(n) => 1 <= n,
-        ShortPrice::None => true,
+        Some(n) => 1 <= n,
+        None => true,
     }
 }

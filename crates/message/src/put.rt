@@ -5,10 +5,7 @@ ghost use Rattle.message.specs.Layout.{bytes_for};
 ghost use Rattle.message.specs.Letters.{letter_for, stamp_rows, stamp_fields, system_event_rows, system_event_fields, directory_rows, directory_fields, quote_rows, quote_fields, trading_action_rows, trading_action_fields, short_quote_rows, short_quote_fields, long_quote_rows, long_quote_fields, short_side_code, short_side_rows, short_side_fields, long_side_code, long_side_rows, long_side_fields, end_of_replay_rows, end_of_replay_fields, directory_letter, end_of_replay_letter, long_quote_letter, long_side_letter, short_quote_letter, short_side_letter, system_event_letter, trading_action_letter};
 ghost use Rattle.message.specs.Message.{bytes_of};
 
-use crate::{
-    Directory, EndOfReplay, LongQuote, LongSide, Message, ShortQuote, ShortSide, Side, Stamp,
-    SystemEvent, Texts, TradingAction, entry, lengths, numbers,
-};
+use crate::{Directory, EndOfReplay, LongQuote, LongSide, Message, ShortQuote, ShortSide, Side, Stamp, SystemEvent, Texts, TradingAction, entry, lengths, numbers};
 use field::decimal;
 
 // The letter and the stamp: eleven bytes.
@@ -16,9 +13,9 @@ fn stamp(out: &mut [u8], letter: u8, s: Stamp)
     requires { 11 ≤ length out.old }
     ensures { out.new ≡ overlay out.old 0 (letter ∷ bytes_for stamp_rows (stamp_fields s)) }
 {
-    field::write1(out, 0, letter);
-    field::write2(out, 1, s.tracking);
-    field::write8(out, 3, s.time);
+    field::write::<u8>(out, 0, letter);
+    field::write::<u16>(out, 1, s.tracking);
+    field::write::<u64>(out, 3, s.time);
 }
 
 // What stands before a quote's sides, and all of a trading action: letter, stamp, id, and a mark.
@@ -27,8 +24,8 @@ fn head(out: &mut [u8], letter: u8, s: Stamp, id: u32, mark: u8)
     ensures { out.new ≡ overlay out.old 0 (letter ∷ bytes_for quote_rows (quote_fields s id mark)) }
 {
     stamp(out, letter, s);
-    field::write4(out, 11, id);
-    field::write1(out, 15, mark);
+    field::write::<u32>(out, 11, id);
+    field::write::<u8>(out, 15, mark);
 }
 
 fn system_event(out: &mut [u8], m: SystemEvent)
@@ -37,7 +34,7 @@ fn system_event(out: &mut [u8], m: SystemEvent)
 {
     let s = m.stamp;
     stamp(out, b'S', s);
-    field::write1(out, 11, m.code);
+    field::write::<u8>(out, 11, m.code);
 }
 
 fn directory(out: &mut [u8], m: Directory, t: Texts)
@@ -128,7 +125,7 @@ fn end_of_replay(out: &mut [u8], m: EndOfReplay)
     requires { end_of_replay_letter.size ≤ length out.old }
     ensures { out.new ≡ overlay out.old 0 (77 ∷ bytes_for end_of_replay_rows (end_of_replay_fields m)) }
 {
-    field::write1(out, 0, b'M');
+    field::write::<u8>(out, 0, b'M');
     decimal::write_number_before_spaces(out, 1, 20, m.number);
 }
 

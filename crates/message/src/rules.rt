@@ -5,10 +5,7 @@ ghost use Rattle.message.specs.Layout.{keeps_all};
 ghost use Rattle.message.specs.Letters.{listed, conditions, system_event_rows, system_event_fields, directory_rows, directory_fields, trading_action_rows, trading_action_fields, short_quote_rows, short_quote_fields, long_quote_rows, long_quote_fields, short_side_rows, short_side_fields, long_side_rows, long_side_fields, end_of_replay_rows, end_of_replay_fields};
 ghost use Rattle.message.specs.Message.{keeps};
 
-use crate::{
-    Directory, EndOfReplay, LongQuote, LongSide, Message, ShortQuote, ShortSide, SystemEvent,
-    Texts, TradingAction, codes, entry, prices,
-};
+use crate::{Directory, EndOfReplay, LongQuote, LongSide, Message, ShortQuote, ShortSide, SystemEvent, Texts, TradingAction, codes, entry, prices};
 use field::limits;
 
 // The rules that every quote has.

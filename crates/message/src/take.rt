@@ -4,24 +4,21 @@ ghost use Rattle.field.specs.Bytes.{part, be};
 ghost use Rattle.message.specs.Layout.{values};
 ghost use Rattle.message.specs.Letters.{stamp_rows, stamp_of, system_event_rows, system_event_of, directory_rows, directory_of, trading_action_rows, trading_action_of, short_quote_rows, short_quote_of, long_quote_rows, long_quote_of, short_side_rows, short_side_of, long_side_rows, long_side_of, end_of_replay_rows, end_of_replay_of, directory_letter, end_of_replay_letter, long_quote_letter, long_side_letter, short_quote_letter, short_side_letter, system_event_letter, trading_action_letter};
 
-use crate::{
-    Directory, EndOfReplay, LongQuote, LongSide, ShortQuote, ShortSide, Side, Stamp, SystemEvent,
-    TradingAction, entry, lengths, numbers,
-};
+use crate::{Directory, EndOfReplay, LongQuote, LongSide, ShortQuote, ShortSide, Side, Stamp, SystemEvent, TradingAction, entry, lengths, numbers};
 use field::decimal;
 
 pub fn time(bytes: &[u8]) -> u64
     requires { 11 ≤ length bytes.now }
     ensures { result ≡ be (part bytes.now 3 8) }
 {
-    field::read8(bytes, 3)
+    field::read::<u64>(bytes, 3)
 }
 
 pub fn condition(bytes: &[u8]) -> u8
     requires { 16 ≤ length bytes.now }
     ensures { result ≡ be (part bytes.now 15 1) }
 {
-    field::read1(bytes, 15)
+    field::read::<u8>(bytes, 15)
 }
 
 fn stamp(bytes: &[u8]) -> Stamp
@@ -29,7 +26,7 @@ fn stamp(bytes: &[u8]) -> Stamp
     ensures { result ≡ stamp_of (values stamp_rows bytes.now) }
 {
     Stamp {
-        tracking: field::read2(bytes, 1),
+        tracking: field::read::<u16>(bytes, 1),
         time: time(bytes),
     }
 }
@@ -40,7 +37,7 @@ pub fn system_event(bytes: &[u8]) -> SystemEvent
 {
     SystemEvent {
         stamp: stamp(bytes),
-        code: field::read1(bytes, 11),
+        code: field::read::<u8>(bytes, 11),
     }
 }
 
@@ -60,8 +57,8 @@ pub fn trading_action(bytes: &[u8]) -> TradingAction
 {
     TradingAction {
         stamp: stamp(bytes),
-        id: field::read4(bytes, 11),
-        state: field::read1(bytes, 15),
+        id: field::read::<u32>(bytes, 11),
+        state: field::read::<u8>(bytes, 15),
     }
 }
 
@@ -71,7 +68,7 @@ pub fn short_quote(bytes: &[u8]) -> ShortQuote
 {
     ShortQuote {
         stamp: stamp(bytes),
-        id: field::read4(bytes, 11),
+        id: field::read::<u32>(bytes, 11),
         condition: condition(bytes),
         bid: numbers::short(bytes, 16),
         ask: numbers::short(bytes, 26),
@@ -84,7 +81,7 @@ pub fn long_quote(bytes: &[u8]) -> LongQuote
 {
     LongQuote {
         stamp: stamp(bytes),
-        id: field::read4(bytes, 11),
+        id: field::read::<u32>(bytes, 11),
         condition: condition(bytes),
         bid: numbers::long(bytes, 16),
         ask: numbers::long(bytes, 36),
@@ -97,7 +94,7 @@ pub fn short_side(bytes: &[u8], side: Side) -> ShortSide
 {
     ShortSide {
         stamp: stamp(bytes),
-        id: field::read4(bytes, 11),
+        id: field::read::<u32>(bytes, 11),
         condition: condition(bytes),
         side,
         numbers: numbers::short(bytes, 16),
@@ -110,7 +107,7 @@ pub fn long_side(bytes: &[u8], side: Side) -> LongSide
 {
     LongSide {
         stamp: stamp(bytes),
-        id: field::read4(bytes, 11),
+        id: field::read::<u32>(bytes, 11),
         condition: condition(bytes),
         side,
         numbers: numbers::long(bytes, 16),
@@ -123,7 +120,7 @@ pub fn end_of_replay(bytes: &[u8]) -> EndOfReplay
     ensures { result ≡ end_of_replay_of (values end_of_replay_rows bytes.now) }
 {
     match decimal::number_before_spaces(bytes, 1, 20) {
-        decimal::Number::Is(number) => EndOfReplay { number },
-        decimal::Number::Bad => EndOfReplay { number: 0 },
+        Some(number) => EndOfReplay { number },
+        None => EndOfReplay { number: 0 },
     }
 }

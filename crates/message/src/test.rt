@@ -60,7 +60,7 @@ pub fn quote(letter: u8, size: usize, bytes: &[u8]) -> u32
     if !limits::time_keeps(bytes, 3) {
         return 12;
     }
-    if !codes::is_condition(field::read1(bytes, 15)) {
+    if !codes::is_condition(field::read::<u8>(bytes, 15)) {
         return 12;
     }
     if !prices_keep(letter, bytes) {
@@ -75,9 +75,9 @@ fn fields_keep(letter: u8, bytes: &[u8]) -> bool
     ensures { result ≡ keeps_all (letter_in letters letter).rows (values (letter_in letters letter).rows bytes.now) }
 {
     match letter {
-        b'S' => limits::time_keeps(bytes, 3) & codes::is_event(field::read1(bytes, 11)),
+        b'S' => limits::time_keeps(bytes, 3) & codes::is_event(field::read::<u8>(bytes, 11)),
         b'm' => limits::time_keeps(bytes, 3) & entry::keep_bytes(&bytes[11..63]),
-        b'H' => limits::time_keeps(bytes, 3) & codes::is_state(field::read1(bytes, 15)),
+        b'H' => limits::time_keeps(bytes, 3) & codes::is_state(field::read::<u8>(bytes, 15)),
         _ => limits::number_in_range(number(bytes)),
     }
 }

@@ -10,8 +10,8 @@ use lib.ListN.{length}
 use Rattle.field.specs.Bytes.{same}
 use Rattle.field.specs.Decimal.{number_after_spaces}
 use Rattle.field.specs.Limits.{highest_number}
-use Rattle.field.specs.declared.decimal.Number.{Number}
-use Rattle.field.specs.declared.decimal.Number.TheVariants.{Is, Bad}
+use Rattle.std.specs.Prelude.{Option}
+use Rattle.std.specs.Prelude.{Some, None}
 use Rattle.field.proofs.Same.{test-same}
 use Rattle.packet.specs.Numbering.{none_left}
 use Rattle.packet.specs.Table.{TableRow, packet_table, entry_of, in_place, of_size}
@@ -45,9 +45,9 @@ module _ (l : Line) (session : List ℕ) (n : ℕ) (f : follows l session n ≡ 
   follows-session k = test-same l.session session (rw k at (and_both (not l.known || same l.session session) (eqb n l.next) f).0)
 
 module _ (l : Line) (body : List ℕ) where
-  with-known : length body ≡ login_size → l.logged ≡ false → (x : Number) → Known l body (login_with l (login_session body) x)
-  with-known e f Bad = tt
-  with-known e f (Is n) = both (Known l body) (follows l (login_session body) n) (λ g. (e, f, g)) (λ _. tt)
+  with-known : length body ≡ login_size → l.logged ≡ false → (x : Option ℕ) → Known l body (login_with l (login_session body) x)
+  with-known e f None = tt
+  with-known e f (Some n) = both (Known l body) (follows l (login_session body) n) (λ g. (e, f, g)) (λ _. tt)
 
   login-known : length body ≡ login_size → l.logged ≡ false → Known l body (login_of l body)
   unfolding login_of

@@ -6,8 +6,8 @@ use mathlib.Core.Bool.{Bool, true, false, ◌&&◌, not, cond}
 use Prim.Native.Nat.{ℕ, ◌+◌}
 use lib.ListN.{length}
 use Rattle.field.specs.Decimal.{number_after_spaces}
-use Rattle.field.specs.declared.decimal.Number.{Number}
-use Rattle.field.specs.declared.decimal.Number.TheVariants.{Is, Bad}
+use Rattle.std.specs.Prelude.{Option}
+use Rattle.std.specs.Prelude.{Some, None}
 use Rattle.packet.specs.Numbering.{none_left}
 use Rattle.packet.specs.Table.{packet_table, entry_of, takes_number, in_place, of_size}
 use Rattle.packet.specs.Line.{login_session, login_number, follows, login_with, login_of, meant_of, packet_by, packet_of, is_message}
@@ -39,9 +39,9 @@ module _ (l : Line) (body : List ℕ) where
   abbrev No : Packet → Type 0
   No p = false ≡ is_message p
 
-  login-none : (x : Number) → No (login_with l (login_session body) x)
-  login-none Bad = refl
-  login-none (Is n) = both No (follows l (login_session body) n) (λ _. refl) (λ _. refl)
+  login-none : (x : Option ℕ) → No (login_with l (login_session body) x)
+  login-none None = refl
+  login-none (Some n) = both No (follows l (login_session body) n) (λ _. refl) (λ _. refl)
 
   meant_is : (m : Meaning) → takes_number m && not (none_left l.next) ≡ is_message (meant_of l body m)
   unfolding login_of

@@ -12,8 +12,8 @@ use lib.ListN.{length, get_or}
 use Rattle.field.specs.Bytes.{be}
 use Rattle.field.specs.Decimal.{number_after_spaces}
 use Rattle.field.specs.Limits.{highest_number}
-use Rattle.field.specs.declared.decimal.Number.{Number}
-use Rattle.field.specs.declared.decimal.Number.TheVariants.{Is, Bad}
+use Rattle.std.specs.Prelude.{Option}
+use Rattle.std.specs.Prelude.{Some, None}
 use Rattle.packet.specs.Frame.{Framed, short, bad_length, packet, longest_packet, framed, frame}
 use Rattle.packet.specs.Table.{packet_table, entry_of, in_place, of_size}
 use Rattle.packet.specs.Line.{login_session, login_number, follows, login_with, login_of, meant_of, packet_by, packet_of}
@@ -62,12 +62,12 @@ module _ (l : Line) (body : List ℕ) where
   -- a packet in place and of the right L, by its meaning
   pub data Meant : Meaning → Packet → Type 0 where
     -- 4: a bad login number
-    bad_number : number_after_spaces (login_number body) ≡ Bad → Meant meaning.LoginAccepted (Refused BadForm)
+    bad_number : number_after_spaces (login_number body) ≡ None → Meant meaning.LoginAccepted (Refused BadForm)
     -- 5: the known session differs, or the number is not next
-    not_next : (n : ℕ) → number_after_spaces (login_number body) ≡ Is n → follows l (login_session body) n ≡ false → Meant meaning.LoginAccepted (Refused NotNext)
+    not_next : (n : ℕ) → number_after_spaces (login_number body) ≡ Some n → follows l (login_session body) n ≡ false → Meant meaning.LoginAccepted (Refused NotNext)
     -- 6: S arrives and the next number is 10 ^ 12
     used_up : l.next ≡ highest_number → Meant meaning.Message (Refused NumbersUsedUp)
-    login : (n : ℕ) → number_after_spaces (login_number body) ≡ Is n → follows l (login_session body) n ≡ true → Meant meaning.LoginAccepted (Login n)
+    login : (n : ℕ) → number_after_spaces (login_number body) ≡ Some n → follows l (login_session body) n ≡ true → Meant meaning.LoginAccepted (Login n)
     message : (l.next ≡ highest_number → ⊥) → Meant meaning.Message Message
     rejected : Meant meaning.LoginRejected (Rejected (get_or body 0 0))
     heartbeat : Meant meaning.Heartbeat Heartbeat
@@ -89,9 +89,9 @@ module _ (l : Line) (body : List ℕ) where
 
   -- ---- every packet is judged under its condition
 
-  login-by : (x : Number) → number_after_spaces (login_number body) ≡ x → Meant meaning.LoginAccepted (login_with l (login_session body) x)
-  login-by Bad e = bad_number e
-  login-by (Is n) e = by (follows l (login_session body) n) refl
+  login-by : (x : Option ℕ) → number_after_spaces (login_number body) ≡ x → Meant meaning.LoginAccepted (login_with l (login_session body) x)
+  login-by None e = bad_number e
+  login-by (Some n) e = by (follows l (login_session body) n) refl
     where
       by : (b : Bool) → follows l (login_session body) n ≡ b → Meant meaning.LoginAccepted (cond b (Login n) (Refused NotNext))
       by true f = login n e f
@@ -133,7 +133,7 @@ module _ (l : Line) (body : List ℕ) where
 
   -- what a meaning asks of a packet, beyond its place and L
   abbrev pub Asks : Meaning → Type 0
-  Asks meaning.LoginAccepted = (n : ℕ) × (number_after_spaces (login_number body) ≡ Is n) × (follows l (login_session body) n ≡ true)
+  Asks meaning.LoginAccepted = (n : ℕ) × (number_after_spaces (login_number body) ≡ Some n) × (follows l (login_session body) n ≡ true)
   Asks meaning.LoginRejected = Unit
   Asks meaning.Message = l.next ≡ highest_number → ⊥
   Asks meaning.Heartbeat = Unit

@@ -12,8 +12,8 @@ use lib.ListN.{length, get_or, drop}
 use lib.Seq.{drop-length}
 use Rattle.field.specs.Bytes.{part, overlay, same}
 use Rattle.field.specs.Decimal.{number_after_spaces}
-use Rattle.field.specs.declared.decimal.Number.{Number}
-use Rattle.field.specs.declared.decimal.Number.TheVariants.{Is, Bad}
+use Rattle.std.specs.Prelude.{Option}
+use Rattle.std.specs.Prelude.{Some, None}
 use Rattle.field.proofs.Parts.{part-all, part_length}
 use Rattle.packet.specs.Frame.{held_size, room_for}
 use Rattle.packet.specs.Numbering.{none_left}
@@ -81,18 +81,18 @@ module _ (l : Line) (session : List ℕ) (n : ℕ) where
         let w : part l.session 0 session_size ≡ l.session = rw (← t) (part-all l.session) in
         e ∙ rw (w, h, eq-eqb n l.next next) (sym (and-true (same l.session session)))
 
-module _ (l : Line) (body : List ℕ) {w : Number} (e : w ≡ number_after_spaces (login_number body)) where
-  login-by : {x : Number} → w ≡ x → login_with l (login_session body) x ≡ login_of l body
+module _ (l : Line) (body : List ℕ) {w : Option ℕ} (e : w ≡ number_after_spaces (login_number body)) where
+  login-by : {x : Option ℕ} → w ≡ x → login_with l (login_session body) x ≡ login_of l body
   unfolding login_of
   login-by f = ap (login_with l (login_session body)) (sym f ∙ e)
 
-  pub login-bad : w ≡ Bad → Refused BadForm ≡ login_of l body
+  pub login-bad : w ≡ None → Refused BadForm ≡ login_of l body
   login-bad f = login-by f
 
-  pub login-yes : {n : ℕ} {r : Bool} → w ≡ Is n → r ≡ follows l (login_session body) n → r ≡ true → Login n ≡ login_of l body
+  pub login-yes : {n : ℕ} {r : Bool} → w ≡ Some n → r ≡ follows l (login_session body) n → r ≡ true → Login n ≡ login_of l body
   login-yes {n} {r} f g t = let y : follows l (login_session body) n ≡ true = yes-call r _ g t in rw y at (login-by f)
 
-  pub login-no : {n : ℕ} {r : Bool} → w ≡ Is n → r ≡ follows l (login_session body) n → r ≡ false → Refused NotNext ≡ login_of l body
+  pub login-no : {n : ℕ} {r : Bool} → w ≡ Some n → r ≡ follows l (login_session body) n → r ≡ false → Refused NotNext ≡ login_of l body
   login-no {n} {r} f g t = let y : follows l (login_session body) n ≡ false = no_call r _ g t in rw y at (login-by f)
 
 -- ---- a meaning

@@ -3,8 +3,8 @@
 use Rattle.std.specs.Prelude.{ℕ, ◌+◌, ◌≤◌, Bool, true, false, cond, not, ◌&&◌, ◌||◌, List, ◌≡◌, eqb, length, get_or, replicate}
 use Rattle.field.specs.Bytes.{part, same}
 use Rattle.field.specs.Decimal.{number_after_spaces}
-use Rattle.field.specs.declared.decimal.Number.{Number}
-use Rattle.field.specs.declared.decimal.Number.TheVariants.{Is, Bad}
+use Rattle.std.specs.Prelude.{Option}
+use Rattle.std.specs.Prelude.{Some, None}
 use Rattle.field.specs.Limits.{highest_number}
 use Rattle.packet.specs.Numbering.{first_number, none_left, number_after}
 use Rattle.packet.specs.Table.{packet_table, entry_of, in_place, of_size}
@@ -67,9 +67,9 @@ pub record LoggedIn (l : Line) : Type 0 where
 unfoldable pub follows : Line → List ℕ → ℕ → Bool
 follows l session n = (not l.known || same l.session session) && eqb n l.next
 
-abbrev pub login_with : Line → List ℕ → Number → Packet
-login_with l session Bad = Refused BadForm
-login_with l session (Is n) = cond (follows l session n) (Login n) (Refused NotNext)
+abbrev pub login_with : Line → List ℕ → Option ℕ → Packet
+login_with l session None = Refused BadForm
+login_with l session (Some n) = cond (follows l session n) (Login n) (Refused NotNext)
 
 unfoldable pub login_of : Line → List ℕ → Packet
 login_of l body = login_with l (login_session body) (number_after_spaces (login_number body))

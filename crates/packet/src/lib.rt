@@ -8,7 +8,6 @@ ghost use Rattle.packet.specs.Line.{session_size, login_size, login_session, fre
 ghost use Rattle.packet.specs.declared.Line.{Line};
 
 use crate::table::{Entry, Meaning};
-use field::decimal::Number;
 
 pub mod numbering;
 mod table;
@@ -70,7 +69,7 @@ pub fn front(bytes: &[u8]) -> Framing
     if bytes.len() < 2 {
         return Framing::Short;
     }
-    let size = field::read2(bytes, 0) as usize;
+    let size = field::read::<u16>(bytes, 0) as usize;
     if size < 1 {
         return Framing::BadLength;
     }
@@ -127,8 +126,8 @@ fn login(line: Line, body: &[u8]) -> Packet
     ensures { result ≡ login_of line body.now }
 {
     match field::decimal::number_after_spaces(body, SESSION_SIZE, NUMBER_SIZE) {
-        Number::Bad => Packet::Refused(Fault::BadForm),
-        Number::Is(n) => {
+        None => Packet::Refused(Fault::BadForm),
+        Some(n) => {
             if login_follows(line, body, n) {
                 return Packet::Login(n);
             }

@@ -8,7 +8,7 @@ pub enum Size {
     Any,
 }
 
-#[derive(Clone, Copy)]
+#[derive(Clone, Copy, PartialEq, Eq)]
 pub enum Meaning {
     LoginAccepted,
     LoginRejected,
@@ -49,14 +49,7 @@ pub fn row_of(letter: u8) -> Entry
 pub fn takes_number(meaning: Meaning) -> bool
     ensures { result ≡ takes_number meaning }
 {
-    match meaning {
-        Meaning::LoginAccepted => false,
-        Meaning::LoginRejected => false,
-        Meaning::Message => true,
-        Meaning::Heartbeat => false,
-        Meaning::EndOfSession => false,
-        Meaning::Skipped => false,
-    }
+    matches!(meaning, Meaning::Message)
 }
 
 // Does a packet of that place belong on a line that is logged in, or is not?

@@ -9,8 +9,8 @@ use lib.ListN.{length, get_or}
 use Rattle.field.specs.Bytes.{part, Bytes}
 use Rattle.field.specs.Limits.{highest_number}
 use Rattle.field.specs.Decimal.{number_after_spaces}
-use Rattle.field.specs.declared.decimal.Number.{Number}
-use Rattle.field.specs.declared.decimal.Number.TheVariants as number
+use Rattle.std.specs.Prelude.{Option}
+use Rattle.std.specs.declared.option.Option.TheVariants as option
 use Rattle.field.proofs.Parts.{part_length}
 use Rattle.message.specs.Letters.{prices_of, NoZero}
 use Rattle.message.specs.Message as messages
@@ -232,9 +232,9 @@ Reasoned body packet.Skipped = Unit
 Reasoned body (packet.Refused f) = Unit
 
 module _ (l : Line) (body : List ℕ) where
-  with-reasoned : (x : Number) → Reasoned body (login_with l (part body 0 10) x)
-  with-reasoned number.Bad = tt
-  with-reasoned (number.Is n) = both (Reasoned body) (follows l (part body 0 10) n) (λ _. tt) (λ _. tt)
+  with-reasoned : (x : Option ℕ) → Reasoned body (login_with l (part body 0 10) x)
+  with-reasoned option.None = tt
+  with-reasoned (option.Some n) = both (Reasoned body) (follows l (part body 0 10) n) (λ _. tt) (λ _. tt)
 
   meant-reasoned : (m : Meaning) → Reasoned body (meant_of l body m)
   unfolding login_of

@@ -60,7 +60,7 @@ fn apply(
     let letter = body[0];
     if size == 0 {
         if letter == b'S' {
-            handle::put_event(field::read1(body, 11), handle);
+            handle::put_event(field::read::<u8>(body, 11), handle);
             return 0;
         }
         if letter == b'M' {

@@ -87,7 +87,7 @@ pub fn tell(number: u32, handle: &[u8], bytes: &[u8], event: &mut [u8])
         return;
     }
     if kind == REJECTED {
-        field::write1(event, 0, bytes[3]);
+        field::write::<u8>(event, 0, bytes[3]);
     }
 }
 
@@ -114,7 +114,7 @@ fn login(event: &[u8]) -> Heard
     let mut session = [0u8; SESSION_SIZE];
     field::copy(event, SESSION_AT, SESSION_SIZE, &mut session, 0);
     Heard {
-        answer: StepAnswer::Event(Event::Login(field::read8(event, 0))),
+        answer: StepAnswer::Event(Event::Login(field::read::<u64>(event, 0))),
         texts: Texts {
             session,
             message: message::no_texts(),
@@ -149,7 +149,7 @@ pub fn read_back(number: u32, event: &[u8]) -> Heard
     match kind {
         0 => quiet(StepAnswer::More),
         1 => login(event),
-        2 => quiet(StepAnswer::Event(Event::Rejected(field::read1(event, 0)))),
+        2 => quiet(StepAnswer::Event(Event::Rejected(field::read::<u8>(event, 0)))),
         3 => message(event),
         4 => quiet(StepAnswer::Event(Event::Heartbeat)),
         5 => quiet(StepAnswer::Event(Event::End)),

@@ -11,13 +11,13 @@ use Rattle.message.specs.Letters.{no_texts}
 use Rattle.message.specs.declared.Message.{Message}
 use Rattle.message.specs.declared.Message.TheVariants as message
 use Rattle.message.specs.declared.Side.TheVariants.{Ask}
-use Rattle.message.specs.declared.ShortPrice.{ShortPrice}
-use Rattle.message.specs.declared.ShortPrice.TheVariants.{Above, None}
+use Rattle.std.specs.Prelude.{Option}
+use Rattle.std.specs.Prelude.{Some, None}
 use Rattle.record.specs.Places.{record_letters}
 use Rattle.record.specs.Record.{laid, laid_over, record_bytes, held, no_record, said_by, said_of, confirmed, record_of}
 
 -- a short ask, tracking number 1, id 7, condition space, time 2: 3 at 125 pennies, of them 5 in size, 6 of customers, 8 of professionals
-ask_at : ShortPrice → Message
+ask_at : Option ℕ → Message
 ask_at price =
     message.ShortSide
     (record {
@@ -29,7 +29,7 @@ ask_at price =
     })
 
 ask : Message
-ask = ask_at (Above 125)
+ask = ask_at (Some 125)
 
 ask_record : List ℕ
 ask_record =
@@ -66,6 +66,6 @@ take_none : record_of (set ask_record 51 0) ≡ held (ask_at None) no_texts
 unfolding ask_at ask_record record_of confirmed said_of said_by record_letters letter_among values price_from part value same record_bytes laid_over laid overlay digits
 take_none = refl
 
-put-zero : record_bytes (ask_at (Above 0)) no_texts ≡ record_bytes (ask_at None) no_texts
+put-zero : record_bytes (ask_at (Some 0)) no_texts ≡ record_bytes (ask_at None) no_texts
 unfolding ask_at record_bytes laid_over laid overlay digits
 put-zero = refl

@@ -9,8 +9,8 @@ use borrow.Author.Tests.{le-leb}
 use Rattle.field.proofs.Bools.{both_left, both_right}
 use Rattle.message.specs.Layout.{is_price, keeps_all}
 use Rattle.message.specs.Letters.{fields_of, prices_of, NoZero}
-use Rattle.message.specs.declared.Price.{Price}
-use Rattle.message.specs.declared.Price.TheVariants.{Above, None}
+use Rattle.std.specs.Prelude.{Option}
+use Rattle.std.specs.Prelude.{Some, None}
 use Rattle.message.specs.declared.Message.{Message}
 use Rattle.message.specs.declared.Message.TheVariants as message
 use Rattle.message.specs.declared.Texts.{Texts}
@@ -19,19 +19,19 @@ use Rattle.record.specs.Places.{places_for}
 use Rattle.record.specs.Record.{held, record_of}
 use Rattle.record.proofs.Typed.{is_said, is-record}
 
-abbrev are_prices : List Price → Bool
+abbrev are_prices : List (Option ℕ) → Bool
 are_prices [] = true
 are_prices (x ∷ xs) = is_price x && are_prices xs
 
-above_zero : (x : Price) → (x ≡ Above 0 → ⊥) → is_price x ≡ true
-above_zero (Above n) h = let some : n ≡ 0 → ⊥ = λ e. h (ap Above e) in le-leb 1 n (omega arith)
+above_zero : (x : Option ℕ) → (x ≡ Some 0 → ⊥) → is_price x ≡ true
+above_zero (Some n) h = let some : n ≡ 0 → ⊥ = λ e. h (ap Some e) in le-leb 1 n (omega arith)
 above_zero None h = refl
 
-are-prices : (xs : List Price) → NoZero xs → are_prices xs ≡ true
+are-prices : (xs : List (Option ℕ)) → NoZero xs → are_prices xs ≡ true
 are-prices [] z = refl
 are-prices (x ∷ xs) z = rw (above_zero x z.0, are-prices xs z.1)
 
-no_zero : (xs : List Price) → are_prices xs ≡ true → NoZero xs
+no_zero : (xs : List (Option ℕ)) → are_prices xs ≡ true → NoZero xs
 no_zero [] k = tt
 no_zero (x ∷ xs) k =
     (λ e. never (sym (ap is_price e) ∙ both_left (is_price x) (are_prices xs) k), no_zero xs (both_right (is_price x) (are_prices xs) k))

@@ -13,7 +13,7 @@ use Rattle.message.specs.Feed.{Letter}
 use Rattle.message.specs.Letters.{Content, letter_in, unlisted, no_texts, short_price, short_numbers_of, texts_of}
 use Rattle.message.specs.Test.{tested}
 use Rattle.message.specs.Message.{read_of}
-use Rattle.message.specs.declared.ShortPrice.{ShortPrice}
+use Rattle.std.specs.Prelude.{Option}
 use Rattle.message.specs.declared.ShortNumbers.{ShortNumbers}
 use Rattle.message.specs.declared.Message.{Message}
 use Rattle.message.specs.declared.Texts.{Texts}
@@ -27,7 +27,7 @@ use Rattle.record.proofs.Typed.{◌also◌}
 
 -- ---- what the fields say
 
-pub short-said : (bs : List ℕ) (at : ℕ) {market pennies size customer professional : ℕ} {price : ShortPrice} → market ≡ be (part bs (at + 2) 2)
+pub short-said : (bs : List ℕ) (at : ℕ) {market pennies size customer professional : ℕ} {price : Option ℕ} → market ≡ be (part bs (at + 2) 2)
     → pennies ≡ be (part bs (at + 6) 2) → price ≡ short_price (price_from pennies) → size ≡ be (part bs (at + 10) 2)
     → customer ≡ be (part bs (at + 14) 2) → professional ≡ be (part bs (at + 18) 2)
     → ◌≡◌ {A = ShortNumbers} (record { market = market; price = price; size = size; customer = customer; professional = professional })

@@ -18,9 +18,9 @@ fn stamp(kept: &[u8], out: &mut [u8])
     requires { (length kept.now ≡ record_size) × (11 ≤ length out.old) }
     ensures { out.new ≡ laid (letter_place ∷ stamp_rows) (values (letter_place ∷ stamp_places) kept.now) out.old }
 {
-    field::copy1(kept, 0, out, 0);
-    field::copy2(kept, 2, out, 1);
-    field::copy8(kept, 8, out, 3);
+    field::carry::<1>(kept, 0, out, 0);
+    field::carry::<2>(kept, 2, out, 1);
+    field::carry::<8>(kept, 8, out, 3);
 }
 
 // H, and a quote before its sides.
@@ -29,19 +29,19 @@ fn head(kept: &[u8], out: &mut [u8])
     ensures { out.new ≡ laid (letter_place ∷ quote_rows) (values (letter_place ∷ head_places) kept.now) out.old }
 {
     stamp(kept, out);
-    field::copy4(kept, 4, out, 11);
-    field::copy1(kept, 1, out, 15);
+    field::carry::<4>(kept, 4, out, 11);
+    field::carry::<1>(kept, 1, out, 15);
 }
 
 fn short(kept: &[u8], at: usize, out: &mut [u8], to: usize)
     requires { (at + 20 ≤ length kept.now) × (to + 10 ≤ length out.old) }
     ensures { out.new ≡ laid (short_numbers_rows to) (values (short_places at) kept.now) out.old }
 {
-    field::copy2(kept, at + 2, out, to);
-    field::copy2(kept, at + 6, out, to + 2);
-    field::copy2(kept, at + 10, out, to + 4);
-    field::copy2(kept, at + 14, out, to + 6);
-    field::copy2(kept, at + 18, out, to + 8);
+    field::carry::<2>(kept, at + 2, out, to);
+    field::carry::<2>(kept, at + 6, out, to + 2);
+    field::carry::<2>(kept, at + 10, out, to + 4);
+    field::carry::<2>(kept, at + 14, out, to + 6);
+    field::carry::<2>(kept, at + 18, out, to + 8);
 }
 
 fn system_event(kept: &[u8], out: &mut [u8])
@@ -49,7 +49,7 @@ fn system_event(kept: &[u8], out: &mut [u8])
     ensures { out.new ≡ laid (letter_place ∷ system_event_rows) (values (letter_place ∷ system_event_places) kept.now) out.old }
 {
     stamp(kept, out);
-    field::copy1(kept, 1, out, 11);
+    field::carry::<1>(kept, 1, out, 11);
 }
 
 fn short_side(kept: &[u8], side: Side, out: &mut [u8])
@@ -93,20 +93,20 @@ fn terms(kept: &[u8], out: &mut [u8])
     requires { (length kept.now ≡ record_size) × (63 ≤ length out.old) }
     ensures { out.new ≡ laid (take 5 instrument_rows) (values (take 5 instrument_places) kept.now) out.old }
 {
-    field::copy4(kept, 4, out, 11);
-    field::copy8(kept, 75, out, 15);
-    field::copy1(kept, 68, out, 23);
-    field::copy1(kept, 69, out, 24);
-    field::copy1(kept, 70, out, 25);
+    field::carry::<4>(kept, 4, out, 11);
+    field::carry::<8>(kept, 75, out, 15);
+    field::carry::<1>(kept, 68, out, 23);
+    field::carry::<1>(kept, 69, out, 24);
+    field::carry::<1>(kept, 70, out, 25);
 }
 
 fn underlying(kept: &[u8], out: &mut [u8])
     requires { (length kept.now ≡ record_size) × (63 ≤ length out.old) }
     ensures { out.new ≡ overlay out.old 31 (part kept.now 83 13) }
 {
-    field::copy8(kept, 83, out, 31);
-    field::copy4(kept, 91, out, 39);
-    field::copy1(kept, 95, out, 43);
+    field::carry::<8>(kept, 83, out, 31);
+    field::carry::<4>(kept, 91, out, 39);
+    field::carry::<1>(kept, 95, out, 43);
 }
 
 // Strike, option type and underlying.
@@ -114,8 +114,8 @@ fn middle(kept: &[u8], out: &mut [u8])
     requires { (length kept.now ≡ record_size) × (63 ≤ length out.old) }
     ensures { out.new ≡ laid (take 3 (drop 5 instrument_rows)) (values (take 3 (drop 5 instrument_places)) kept.now) out.old }
 {
-    field::copy4(kept, 64, out, 26);
-    field::copy1(kept, 71, out, 30);
+    field::carry::<4>(kept, 64, out, 26);
+    field::carry::<1>(kept, 71, out, 30);
     underlying(kept, out);
 }
 
@@ -123,8 +123,8 @@ fn reserved(kept: &[u8], out: &mut [u8])
     requires { (length kept.now ≡ record_size) × (63 ≤ length out.old) }
     ensures { out.new ≡ overlay out.old 47 (part kept.now 96 16) }
 {
-    field::copy8(kept, 96, out, 47);
-    field::copy8(kept, 104, out, 55);
+    field::carry::<8>(kept, 96, out, 47);
+    field::carry::<8>(kept, 104, out, 55);
 }
 
 // Closing type, tradable, variation and reserved.
@@ -132,9 +132,9 @@ fn marks(kept: &[u8], out: &mut [u8])
     requires { (length kept.now ≡ record_size) × (63 ≤ length out.old) }
     ensures { out.new ≡ laid (drop 8 instrument_rows) (values (drop 8 instrument_places) kept.now) out.old }
 {
-    field::copy1(kept, 72, out, 44);
-    field::copy1(kept, 73, out, 45);
-    field::copy1(kept, 74, out, 46);
+    field::carry::<1>(kept, 72, out, 44);
+    field::carry::<1>(kept, 73, out, 45);
+    field::carry::<1>(kept, 74, out, 46);
     reserved(kept, out);
 }
 
@@ -152,8 +152,8 @@ fn end_of_replay(kept: &[u8], out: &mut [u8])
     requires { (length kept.now ≡ record_size) × (21 ≤ length out.old) }
     ensures { out.new ≡ laid (letter_place ∷ end_of_replay_rows) (values (letter_place ∷ end_of_replay_places) kept.now) out.old }
 {
-    field::copy1(kept, 0, out, 0);
-    field::decimal::write_number_before_spaces(out, 1, 20, field::read8(kept, 16));
+    field::carry::<1>(kept, 0, out, 0);
+    field::decimal::write_number_before_spaces(out, 1, 20, field::read::<u64>(kept, 16));
 }
 
 // The fields of any letter, to a message's length.
@@ -218,7 +218,7 @@ fn head_keeps(kept: &[u8]) -> bool
     requires { length kept.now ≡ record_size }
     ensures { result ≡ time_in_range (be (part kept.now 8 8)) && listed conditions (be (part kept.now 1 1)) }
 {
-    limits::time_keeps(kept, 8) & codes::is_condition(field::read1(kept, 1))
+    limits::time_keeps(kept, 8) & codes::is_condition(field::read::<u8>(kept, 1))
 }
 
 // Do the fields keep the rules of their letter?
@@ -227,15 +227,15 @@ pub fn keep(letter: u8, kept: &[u8]) -> bool
     ensures { result ≡ keeps_all (letter_in letters letter).rows (values (letter_in record_letters letter).rows kept.now) }
 {
     match letter {
-        b'S' => limits::time_keeps(kept, 8) & codes::is_event(field::read1(kept, 1)),
+        b'S' => limits::time_keeps(kept, 8) & codes::is_event(field::read::<u8>(kept, 1)),
         b'm' => limits::time_keeps(kept, 8) & entry::keep_at(kept, 75, 68, 64, 71, 83, 72),
-        b'H' => limits::time_keeps(kept, 8) & codes::is_state(field::read1(kept, 1)),
+        b'H' => limits::time_keeps(kept, 8) & codes::is_state(field::read::<u8>(kept, 1)),
         b'q' => head_keeps(kept),
         b'Q' => head_keeps(kept) & (limits::price_keeps(kept, 28) & limits::price_keeps(kept, 48)),
         b'b' => head_keeps(kept),
         b'a' => head_keeps(kept),
         b'B' => head_keeps(kept) & limits::price_keeps(kept, 28),
         b'A' => head_keeps(kept) & limits::price_keeps(kept, 48),
-        _ => limits::number_in_range(field::read8(kept, 16)),
+        _ => limits::number_in_range(field::read::<u64>(kept, 16)),
     }
 }

@@ -6,18 +6,15 @@ ghost use Rattle.record.specs.Places.{record_size, stamp_places, short_places, s
 ghost use Rattle.record.specs.Record.{held, said_by};
 
 use crate::{Held, Taken};
-use message::{
-    Directory, EndOfReplay, Instrument, LongQuote, LongSide, Message, ShortNumbers, ShortQuote,
-    ShortSide, Side, Stamp, SystemEvent, Texts, TradingAction, numbers, prices,
-};
+use message::{Directory, EndOfReplay, Instrument, LongQuote, LongSide, Message, ShortNumbers, ShortQuote, ShortSide, Side, Stamp, SystemEvent, Texts, TradingAction, numbers, prices};
 
 fn stamp(bytes: &[u8]) -> Stamp
     requires { record_size ≤ length bytes.now }
     ensures { result ≡ stamp_of (values stamp_places bytes.now) }
 {
     Stamp {
-        tracking: field::read2(bytes, 2),
-        time: field::read8(bytes, 8),
+        tracking: field::read::<u16>(bytes, 2),
+        time: field::read::<u64>(bytes, 8),
     }
 }
 
@@ -27,11 +24,11 @@ fn short(bytes: &[u8], at: usize) -> ShortNumbers
     ensures { result ≡ short_numbers_of (values (short_places at) bytes.now) }
 {
     ShortNumbers {
-        market: field::read2(bytes, at + 2),
-        price: prices::short(field::read2(bytes, at + 6)),
-        size: field::read2(bytes, at + 10),
-        customer: field::read2(bytes, at + 14),
-        professional: field::read2(bytes, at + 18),
+        market: field::read::<u16>(bytes, at + 2),
+        price: prices::short(field::read::<u16>(bytes, at + 6)),
+        size: field::read::<u16>(bytes, at + 10),
+        customer: field::read::<u16>(bytes, at + 14),
+        professional: field::read::<u16>(bytes, at + 18),
     }
 }
 
@@ -51,7 +48,7 @@ fn system_event(bytes: &[u8]) -> Held
 {
     bare(Message::SystemEvent(SystemEvent {
         stamp: stamp(bytes),
-        code: field::read1(bytes, 1),
+        code: field::read::<u8>(bytes, 1),
     }))
 }
 
@@ -60,15 +57,15 @@ fn instrument(bytes: &[u8]) -> Instrument
     ensures { result ≡ instrument_of (values instrument_places bytes.now) }
 {
     Instrument {
-        id: field::read4(bytes, 4),
-        year: field::read1(bytes, 68),
-        month: field::read1(bytes, 69),
-        day: field::read1(bytes, 70),
-        strike: field::read4(bytes, 64),
-        kind: field::read1(bytes, 71),
-        closing: field::read1(bytes, 72),
-        tradable: field::read1(bytes, 73),
-        variation: field::read1(bytes, 74),
+        id: field::read::<u32>(bytes, 4),
+        year: field::read::<u8>(bytes, 68),
+        month: field::read::<u8>(bytes, 69),
+        day: field::read::<u8>(bytes, 70),
+        strike: field::read::<u32>(bytes, 64),
+        kind: field::read::<u8>(bytes, 71),
+        closing: field::read::<u8>(bytes, 72),
+        tradable: field::read::<u8>(bytes, 73),
+        variation: field::read::<u8>(bytes, 74),
     }
 }
 
@@ -108,8 +105,8 @@ fn trading_action(bytes: &[u8]) -> Held
 {
     bare(Message::TradingAction(TradingAction {
         stamp: stamp(bytes),
-        id: field::read4(bytes, 4),
-        state: field::read1(bytes, 1),
+        id: field::read::<u32>(bytes, 4),
+        state: field::read::<u8>(bytes, 1),
     }))
 }
 
@@ -119,8 +116,8 @@ fn short_quote(bytes: &[u8]) -> Held
 {
     bare(Message::ShortQuote(ShortQuote {
         stamp: stamp(bytes),
-        id: field::read4(bytes, 4),
-        condition: field::read1(bytes, 1),
+        id: field::read::<u32>(bytes, 4),
+        condition: field::read::<u8>(bytes, 1),
         bid: short(bytes, 24),
         ask: short(bytes, 44),
     }))
@@ -132,8 +129,8 @@ fn long_quote(bytes: &[u8]) -> Held
 {
     bare(Message::LongQuote(LongQuote {
         stamp: stamp(bytes),
-        id: field::read4(bytes, 4),
-        condition: field::read1(bytes, 1),
+        id: field::read::<u32>(bytes, 4),
+        condition: field::read::<u8>(bytes, 1),
         bid: numbers::long(bytes, 24),
         ask: numbers::long(bytes, 44),
     }))
@@ -145,8 +142,8 @@ fn short_side(bytes: &[u8], side: Side) -> Held
 {
     bare(Message::ShortSide(ShortSide {
         stamp: stamp(bytes),
-        id: field::read4(bytes, 4),
-        condition: field::read1(bytes, 1),
+        id: field::read::<u32>(bytes, 4),
+        condition: field::read::<u8>(bytes, 1),
         side,
         numbers: short(bytes, crate::side_at(side)),
     }))
@@ -158,8 +155,8 @@ fn long_side(bytes: &[u8], side: Side) -> Held
 {
     bare(Message::LongSide(LongSide {
         stamp: stamp(bytes),
-        id: field::read4(bytes, 4),
-        condition: field::read1(bytes, 1),
+        id: field::read::<u32>(bytes, 4),
+        condition: field::read::<u8>(bytes, 1),
         side,
         numbers: numbers::long(bytes, crate::side_at(side)),
     }))
@@ -170,7 +167,7 @@ fn end_of_replay(bytes: &[u8]) -> Held
     ensures { result ≡ said_by (record_letter end_of_replay_letter end_of_replay_places) bytes.now }
 {
     bare(Message::EndOfReplay(EndOfReplay {
-        number: field::read8(bytes, 16),
+        number: field::read::<u64>(bytes, 16),
     }))
 }
 

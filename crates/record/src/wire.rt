@@ -14,9 +14,9 @@ fn stamp(bytes: &[u8], out: &mut [u8])
     requires { (11 ≤ length bytes.now) × (record_size ≤ length out.old) }
     ensures { out.new ≡ laid (letter_place ∷ stamp_places) (values (letter_place ∷ stamp_rows) bytes.now) out.old }
 {
-    field::copy1(bytes, 0, out, 0);
-    field::copy2(bytes, 1, out, 2);
-    field::copy8(bytes, 3, out, 8);
+    field::carry::<1>(bytes, 0, out, 0);
+    field::carry::<2>(bytes, 1, out, 2);
+    field::carry::<8>(bytes, 3, out, 8);
 }
 
 // H, and a quote before its sides.
@@ -25,19 +25,19 @@ fn head(bytes: &[u8], out: &mut [u8])
     ensures { out.new ≡ laid (letter_place ∷ head_places) (values (letter_place ∷ quote_rows) bytes.now) out.old }
 {
     stamp(bytes, out);
-    field::copy4(bytes, 11, out, 4);
-    field::copy1(bytes, 15, out, 1);
+    field::carry::<4>(bytes, 11, out, 4);
+    field::carry::<1>(bytes, 15, out, 1);
 }
 
 fn short(bytes: &[u8], from: usize, out: &mut [u8], at: usize)
     requires { (from + 10 ≤ length bytes.now) × (at + 20 ≤ length out.old) }
     ensures { out.new ≡ laid (short_places at) (values (short_numbers_rows from) bytes.now) out.old }
 {
-    field::copy2(bytes, from, out, at + 2);
-    field::copy2(bytes, from + 2, out, at + 6);
-    field::copy2(bytes, from + 4, out, at + 10);
-    field::copy2(bytes, from + 6, out, at + 14);
-    field::copy2(bytes, from + 8, out, at + 18);
+    field::carry::<2>(bytes, from, out, at + 2);
+    field::carry::<2>(bytes, from + 2, out, at + 6);
+    field::carry::<2>(bytes, from + 4, out, at + 10);
+    field::carry::<2>(bytes, from + 6, out, at + 14);
+    field::carry::<2>(bytes, from + 8, out, at + 18);
 }
 
 fn system_event(bytes: &[u8], out: &mut [u8])
@@ -45,7 +45,7 @@ fn system_event(bytes: &[u8], out: &mut [u8])
     ensures { out.new ≡ laid (letter_place ∷ system_event_places) (values (letter_place ∷ system_event_rows) bytes.now) out.old }
 {
     stamp(bytes, out);
-    field::copy1(bytes, 11, out, 1);
+    field::carry::<1>(bytes, 11, out, 1);
 }
 
 fn short_side(bytes: &[u8], side: Side, out: &mut [u8])
@@ -89,19 +89,19 @@ fn terms(bytes: &[u8], out: &mut [u8])
     requires { (63 ≤ length bytes.now) × (record_size ≤ length out.old) }
     ensures { out.new ≡ laid (take 5 instrument_places) (values (take 5 instrument_rows) bytes.now) out.old }
 {
-    field::copy4(bytes, 11, out, 4);
-    field::copy8(bytes, 15, out, 75);
-    field::copy2(bytes, 23, out, 68);
-    field::copy1(bytes, 25, out, 70);
+    field::carry::<4>(bytes, 11, out, 4);
+    field::carry::<8>(bytes, 15, out, 75);
+    field::carry::<2>(bytes, 23, out, 68);
+    field::carry::<1>(bytes, 25, out, 70);
 }
 
 fn underlying(bytes: &[u8], out: &mut [u8])
     requires { (63 ≤ length bytes.now) × (record_size ≤ length out.old) }
     ensures { out.new ≡ overlay out.old 83 (part bytes.now 31 13) }
 {
-    field::copy8(bytes, 31, out, 83);
-    field::copy4(bytes, 39, out, 91);
-    field::copy1(bytes, 43, out, 95);
+    field::carry::<8>(bytes, 31, out, 83);
+    field::carry::<4>(bytes, 39, out, 91);
+    field::carry::<1>(bytes, 43, out, 95);
 }
 
 // Strike, option type and underlying.
@@ -109,8 +109,8 @@ fn middle(bytes: &[u8], out: &mut [u8])
     requires { (63 ≤ length bytes.now) × (record_size ≤ length out.old) }
     ensures { out.new ≡ laid (take 3 (drop 5 instrument_places)) (values (take 3 (drop 5 instrument_rows)) bytes.now) out.old }
 {
-    field::copy4(bytes, 26, out, 64);
-    field::copy1(bytes, 30, out, 71);
+    field::carry::<4>(bytes, 26, out, 64);
+    field::carry::<1>(bytes, 30, out, 71);
     underlying(bytes, out);
 }
 
@@ -118,8 +118,8 @@ fn reserved(bytes: &[u8], out: &mut [u8])
     requires { (63 ≤ length bytes.now) × (record_size ≤ length out.old) }
     ensures { out.new ≡ overlay out.old 96 (part bytes.now 47 16) }
 {
-    field::copy8(bytes, 47, out, 96);
-    field::copy8(bytes, 55, out, 104);
+    field::carry::<8>(bytes, 47, out, 96);
+    field::carry::<8>(bytes, 55, out, 104);
 }
 
 // Closing type, tradable, variation and reserved.
@@ -127,8 +127,8 @@ fn marks(bytes: &[u8], out: &mut [u8])
     requires { (63 ≤ length bytes.now) × (record_size ≤ length out.old) }
     ensures { out.new ≡ laid (drop 8 instrument_places) (values (drop 8 instrument_rows) bytes.now) out.old }
 {
-    field::copy2(bytes, 44, out, 72);
-    field::copy1(bytes, 46, out, 74);
+    field::carry::<2>(bytes, 44, out, 72);
+    field::carry::<1>(bytes, 46, out, 74);
     reserved(bytes, out);
 }
 
@@ -146,8 +146,8 @@ fn end_of_replay(bytes: &[u8], out: &mut [u8])
     requires { (21 ≤ length bytes.now) × (record_size ≤ length out.old) }
     ensures { out.new ≡ laid (letter_place ∷ end_of_replay_places) (values (letter_place ∷ end_of_replay_rows) bytes.now) out.old }
 {
-    field::copy1(bytes, 0, out, 0);
-    field::write8(out, 16, message::test::number(bytes));
+    field::carry::<1>(bytes, 0, out, 0);
+    field::write::<u64>(out, 16, message::test::number(bytes));
 }
 
 // Bytes of any letter, of its length.

@@ -9,9 +9,9 @@ use Rattle.field.specs.Bytes.{part, overlay, digits, value}
 use Rattle.message.specs.Layout.{price_from, bytes_for}
 use Rattle.message.specs.Letters.{listed, states}
 use Rattle.message.specs.declared.Side.TheVariants.{Bid, Ask}
-use Rattle.message.specs.declared.Price.TheVariants.{Above, None}
-use Rattle.message.specs.declared.ShortPrice.{ShortPrice}
-use Rattle.message.specs.declared.ShortPrice.TheVariants as short
+use Rattle.std.specs.Prelude.{Some, None}
+use Rattle.std.specs.Prelude.{Option}
+use Rattle.std.specs.declared.option.Option.TheVariants as short
 use Rattle.message.specs.declared.ShortNumbers.{ShortNumbers}
 use Rattle.row.specs.Fields.{row_size, sides_of, price_of, numbers_of, side_time_of, seen_with, quoting_states, state_takes_quote}
 use Rattle.row.specs.Changes.{changed, widened, sides_changes, times_changes, quote_changes}
@@ -19,13 +19,13 @@ use Rattle.row.specs.declared.Sides.TheVariants.{One}
 use Rattle.row.specs.declared.Quote.{Quote}
 
 -- C10: pennies `00 7D` are 1.2500, `FF FF` are 655.3500
-abbrev pennies : ShortPrice → ShortNumbers
+abbrev pennies : Option ℕ → ShortNumbers
 pennies p = record { market = 0; price = p; size = 10; customer = 0; professional = 0 }
 
-c10-low : (widened (pennies (short.Above 125))).price ≡ Above 12_500
+c10-low : (widened (pennies (short.Some 125))).price ≡ Some 12_500
 c10-low = refl
 
-c10-high : (widened (pennies (short.Above 65_535))).price ≡ Above 6_553_500
+c10-high : (widened (pennies (short.Some 65_535))).price ≡ Some 6_553_500
 c10-high = refl
 
 -- and none is none
@@ -33,17 +33,17 @@ none_stays : (widened (pennies short.None)).price ≡ None
 none_stays = refl
 
 -- a bid of 1.25 in a row of zeros: its side is seen, its price is 12,500 ten-thousandths, and the ask is as it was
-abbrev bid : ShortPrice → Quote
+abbrev bid : Option ℕ → Quote
 bid p = record { stamp = record { tracking = 1; time = 2 }; id = 7; condition = 32; sides = One Bid (widened (pennies p)) }
 
 abbrev row-after : List ℕ
-row-after = changed (quote_changes (bid (short.Above 125)) (replicate row_size 0)) (replicate row_size 0)
+row-after = changed (quote_changes (bid (short.Some 125)) (replicate row_size 0)) (replicate row_size 0)
 
 bid-seen : sides_of row-after ≡ 1
 unfolding changed quote_changes sides_changes times_changes seen_with overlay part digits value bytes_for
 bid-seen = refl
 
-bid-price : price_of Bid row-after ≡ Above 12_500
+bid-price : price_of Bid row-after ≡ Some 12_500
 unfolding price_from changed quote_changes sides_changes times_changes seen_with overlay part digits value bytes_for
 bid-price = refl
 

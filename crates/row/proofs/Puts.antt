@@ -16,7 +16,7 @@ use Rattle.field.proofs.Runs.{zeros-are}
 use Rattle.field.proofs.Writes.{piece, run-joined}
 use Rattle.message.specs.Layout.{price_from, bytes_for, values}
 use Rattle.message.specs.Letters.{listed, states, conditions, stamp_rows, stamp_fields, long_numbers_rows, long_numbers_fields, instrument_rows, instrument_fields}
-use Rattle.message.specs.declared.Price.{Price}
+use Rattle.std.specs.Prelude.{Option}
 use Rattle.message.specs.declared.Side.{Side}
 use Rattle.message.specs.declared.Side.TheVariants.{Bid, Ask}
 use Rattle.message.specs.declared.LongNumbers.{LongNumbers}
@@ -170,7 +170,7 @@ module _ (xs : List ℕ) {state : ℕ} {quoting : Bool} (e : state ≡ be (part 
   unfolding takes_quote tradable_of values
   state-allows g h = rw (← e, ← f, g, h)
 
-pub price-read : (xs : List ℕ) (side : Side) {at n : ℕ} {price : Price} → at ≡ side_at side → n ≡ be (part xs (at + 4) 4) → price ≡ price_from n
+pub price-read : (xs : List ℕ) (side : Side) {at n : ℕ} {price : Option ℕ} → at ≡ side_at side → n ≡ be (part xs (at + 4) 4) → price ≡ price_from n
     → price ≡ price_of side xs
 price-read xs side e f g = g ∙ ap price_from (rw e at f)
 

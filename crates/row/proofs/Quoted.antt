@@ -14,8 +14,8 @@ use Rattle.field.proofs.Parts.{part-part}
 use Rattle.field.proofs.Numbers.{value-digits}
 use Rattle.message.specs.Layout.{price_from, amount, is_price, bytes_for}
 use Rattle.message.specs.Letters.{short_price, long_numbers_rows, long_numbers_fields}
-use Rattle.message.specs.declared.Price.{Price}
-use Rattle.message.specs.declared.Price.TheVariants.{Above, None}
+use Rattle.std.specs.Prelude.{Option}
+use Rattle.std.specs.Prelude.{Some, None}
 use Rattle.message.specs.declared.Side.{Side}
 use Rattle.message.specs.declared.Side.TheVariants.{Bid, Ask}
 use Rattle.message.specs.declared.LongNumbers.{LongNumbers}
@@ -47,8 +47,8 @@ module _ (r : List ℕ) (side : Side) (n : LongNumbers) (low : price_in_range (a
   put-price p = ap price_from put-amount ∙ from-amount n.price p
 
 -- pennies in ten-thousandths: none stays none
-pub widened-amount : (x : Price) → amount (widened_price (short_price x)) ≡ ten_thousandths (amount x)
-widened-amount (Above n) = refl
+pub widened-amount : (x : Option ℕ) → amount (widened_price (short_price x)) ≡ ten_thousandths (amount x)
+widened-amount (Some n) = refl
 widened-amount None = refl
 
 -- the time of the message that set a side stands in a row

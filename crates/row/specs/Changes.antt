@@ -8,10 +8,8 @@ use Rattle.message.specs.Letters.{stamp_rows, stamp_fields, long_numbers_rows, l
 use Rattle.message.specs.declared.Stamp.{Stamp}
 use Rattle.message.specs.declared.Side.{Side}
 use Rattle.message.specs.declared.Side.TheVariants.{Bid, Ask}
-use Rattle.message.specs.declared.Price.{Price}
-use Rattle.message.specs.declared.Price.TheVariants as long
-use Rattle.message.specs.declared.ShortPrice.{ShortPrice}
-use Rattle.message.specs.declared.ShortPrice.TheVariants as short
+use Rattle.std.specs.Prelude.{Option}
+use Rattle.std.specs.declared.option.Option.TheVariants as long
 use Rattle.message.specs.declared.ShortNumbers.{ShortNumbers}
 use Rattle.message.specs.declared.LongNumbers.{LongNumbers}
 use Rattle.message.specs.declared.Instrument.{Instrument}
@@ -116,9 +114,9 @@ action_changes a = state_change a.state ∷ stamp_change a.stamp ∷ []
 -- ---- a quote
 
 -- the table keeps ten-thousandths: short prices are pennies
-abbrev pub widened_price : ShortPrice → Price
-widened_price (short.Above n) = long.Above (ten_thousandths n)
-widened_price short.None = long.None
+abbrev pub widened_price : Option ℕ → Option ℕ
+widened_price (long.Some n) = long.Some (ten_thousandths n)
+widened_price long.None = long.None
 
 abbrev pub widened : ShortNumbers → LongNumbers
 widened n =

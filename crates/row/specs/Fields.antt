@@ -6,7 +6,7 @@ use Rattle.message.specs.Layout.{price_from, values}
 use Rattle.message.specs.Letters.{listed, entry_rows, instrument_of, texts_of, entry_size}
 use Rattle.message.specs.declared.Instrument.{Instrument}
 use Rattle.message.specs.declared.Texts.{Texts}
-use Rattle.message.specs.declared.Price.{Price}
+use Rattle.std.specs.Prelude.{Option}
 use Rattle.message.specs.declared.Side.{Side}
 use Rattle.message.specs.declared.Side.TheVariants.{Bid, Ask}
 
@@ -60,7 +60,7 @@ numbers_of side r = part r (side_at side) 20
 abbrev pub amount_of : Side → List ℕ → ℕ
 amount_of side r = be (part r (side_at side + 4) 4)
 
-abbrev pub price_of : Side → List ℕ → Price
+abbrev pub price_of : Side → List ℕ → Option ℕ
 price_of side r = price_from (amount_of side r)
 
 -- 96-97, 98-105: tracking and time of the row's latest message

@@ -2,27 +2,27 @@
 ghost use Rattle.std.specs.Prelude.{◌≡◌, ◌≤◌, length};
 ghost use Rattle.row.specs.Fields.{row_size, id_of, state_of, side_at, sides_of, price_of, has_seen, side_time_at, side_time_of};
 
-use message::{Price, Side, prices};
+use message::{Side, prices};
 
 pub fn id(row: &[u8]) -> u32
     requires { row_size ≤ length row.now }
     ensures { result ≡ id_of row.now }
 {
-    field::read4(row, 0)
+    field::read::<u32>(row, 0)
 }
 
 pub fn state(row: &[u8]) -> u8
     requires { row_size ≤ length row.now }
     ensures { result ≡ state_of row.now }
 {
-    field::read1(row, 52)
+    field::read::<u8>(row, 52)
 }
 
 pub fn sides(row: &[u8]) -> u8
     requires { row_size ≤ length row.now }
     ensures { result ≡ sides_of row.now }
 {
-    field::read1(row, 54)
+    field::read::<u8>(row, 54)
 }
 
 // Where the numbers of a side stand.
@@ -35,12 +35,12 @@ pub fn side_at(side: Side) -> usize
     }
 }
 
-pub fn price(row: &[u8], side: Side) -> Price
+pub fn price(row: &[u8], side: Side) -> Option<u32>
     requires { row_size ≤ length row.now }
     ensures { result ≡ price_of side row.now }
 {
     let at = side_at(side);
-    prices::long(field::read4(row, at + 4))
+    prices::long(field::read::<u32>(row, at + 4))
 }
 
 // Where the time of the latest message that set a side stands.
@@ -57,7 +57,7 @@ pub fn side_time(row: &[u8], side: Side) -> u64
     requires { row_size ≤ length row.now }
     ensures { result ≡ side_time_of side row.now }
 {
-    field::read8(row, side_time_at(side))
+    field::read::<u64>(row, side_time_at(side))
 }
 
 // Is the side among those that the sum names?

@@ -46,7 +46,7 @@ pub fn takes_quote(row: &[u8]) -> bool
     if !state_takes_quote(fields::state(row)) {
         return false;
     }
-    field::read1(row, 34) == b'Y'
+    field::read::<u8>(row, 34) == b'Y'
 }
 
 // The sides seen, with one more.
@@ -74,7 +74,7 @@ fn purge(row: &mut [u8])
     requires { row_size ≤ length row.old }
     ensures { row.new ≡ changed purge row.old }
 {
-    field::write1(row, 53, b' ');
+    field::write::<u8>(row, 53, b' ');
     field::fill(row, 54, 42, 0);
     field::fill(row, 106, 16, 0);
 }

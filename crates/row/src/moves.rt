@@ -24,8 +24,8 @@ pub fn forward(row: &mut [u8])
     ensures { row.new ≡ forward_row row.old }
 {
     let sides = fields::sides(row);
-    field::write8(row, 106, mark(Side::Bid, sides));
-    field::write8(row, 114, mark(Side::Ask, sides));
+    field::write::<u64>(row, 106, mark(Side::Bid, sides));
+    field::write::<u64>(row, 114, mark(Side::Ask, sides));
 }
 
 // There are no times of the sides.

@@ -23,7 +23,7 @@ fn marks_keep(row: &[u8]) -> bool
 {
     let state = fields::state(row);
     ((0 == state) | codes::is_state(state))
-        & (codes::is_condition(field::read1(row, 53)) & (fields::sides(row) <= 3))
+        & (codes::is_condition(field::read::<u8>(row, 53)) & (fields::sides(row) <= 3))
 }
 
 // A side that is all zero has a price in range, so the price is tested where the side is seen.
@@ -42,7 +42,7 @@ fn bare_keeps(row: &[u8]) -> bool
     requires { row_size ≤ length row.now }
     ensures { result ≡ bare_keeps row.now }
 {
-    (fields::sides(row) != 0) | (field::read1(row, 53) == b' ')
+    (fields::sides(row) != 0) | (field::read::<u8>(row, 53) == b' ')
 }
 
 fn stamp_keeps(row: &[u8]) -> bool

@@ -17,8 +17,8 @@ fn put_stamp(row: &mut [u8], bytes: &[u8])
     requires { (row_size ≤ length row.old) × (11 ≤ length bytes.now) }
     ensures { row.new ≡ overlay row.old 96 (bytes_for stamp_rows (stamp_fields (stamp_in bytes.now))) }
 {
-    field::copy2(bytes, 1, row, 96);
-    field::copy8(bytes, 3, row, 98);
+    field::carry::<2>(bytes, 1, row, 96);
+    field::carry::<8>(bytes, 3, row, 98);
 }
 
 // The time of the message that sets a side.
@@ -26,7 +26,7 @@ fn put_time(row: &mut [u8], side: Side, bytes: &[u8])
     requires { (row_size ≤ length row.old) × (11 ≤ length bytes.now) }
     ensures { row.new ≡ overlay row.old (side_time_at side) (bytes_be 8 (stamp_in bytes.now).time) }
 {
-    field::copy8(bytes, 3, row, fields::side_time_at(side));
+    field::carry::<8>(bytes, 3, row, fields::side_time_at(side));
 }
 
 fn put_times(row: &mut [u8], bytes: &[u8])
@@ -41,15 +41,15 @@ fn put_short(row: &mut [u8], at: usize, bytes: &[u8], from: usize)
     requires { (at + 20 ≤ length row.old) × (from + 10 ≤ length bytes.now) }
     ensures { row.new ≡ overlay row.old at (bytes_for (long_numbers_rows at) (long_numbers_fields (short_in from bytes.now))) }
 {
-    field::write4(row, at, field::read2(bytes, from) as u32);
-    field::write4(
+    field::write::<u32>(row, at, field::read::<u16>(bytes, from) as u32);
+    field::write::<u32>(
         row,
         at + 4,
-        limits::ten_thousandths(field::read2(bytes, from + 2)),
+        limits::ten_thousandths(field::read::<u16>(bytes, from + 2)),
     );
-    field::write4(row, at + 8, field::read2(bytes, from + 4) as u32);
-    field::write4(row, at + 12, field::read2(bytes, from + 6) as u32);
-    field::write4(row, at + 16, field::read2(bytes, from + 8) as u32);
+    field::write::<u32>(row, at + 8, field::read::<u16>(bytes, from + 4) as u32);
+    field::write::<u32>(row, at + 12, field::read::<u16>(bytes, from + 6) as u32);
+    field::write::<u32>(row, at + 16, field::read::<u16>(bytes, from + 8) as u32);
 }
 
 fn put_short_side(row: &mut [u8], side: Side, bytes: &[u8])
@@ -57,7 +57,7 @@ fn put_short_side(row: &mut [u8], side: Side, bytes: &[u8])
     ensures { row.new ≡ changed (own_changes (One side (short_in 16 bytes.now)) (sides_of row.old) (stamp_in bytes.now).time) row.old }
 {
     let seen = fields::sides(row);
-    field::write1(row, 54, crate::seen_with(side, seen));
+    field::write::<u8>(row, 54, crate::seen_with(side, seen));
     put_short(row, fields::side_at(side), bytes, 16);
     put_time(row, side, bytes);
 }
@@ -67,7 +67,7 @@ fn put_short_both(row: &mut [u8], bytes: &[u8])
     ensures { row.new ≡ changed (own_changes (Both (short_in 16 bytes.now) (short_in 26 bytes.now)) (sides_of row.old) (stamp_in bytes.now).time) row.old }
 {
     let seen = fields::sides(row);
-    field::write1(
+    field::write::<u8>(
         row,
         54,
         crate::seen_with(Side::Ask, crate::seen_with(Side::Bid, seen)),
@@ -85,7 +85,7 @@ fn put_long_side(row: &mut [u8], side: Side, bytes: &[u8])
     let seen = fields::sides(row);
     numbers::carry_long(bytes, 16, row, fields::side_at(side));
     put_time(row, side, bytes);
-    field::write1(row, 54, crate::seen_with(side, seen));
+    field::write::<u8>(row, 54, crate::seen_with(side, seen));
 }
 
 fn put_long_both(row: &mut [u8], bytes: &[u8])
@@ -95,7 +95,7 @@ fn put_long_both(row: &mut [u8], bytes: &[u8])
     let seen = fields::sides(row);
     numbers::carry_long(bytes, 16, row, 56);
     numbers::carry_long(bytes, 36, row, 76);
-    field::write1(
+    field::write::<u8>(
         row,
         54,
         crate::seen_with(Side::Ask, crate::seen_with(Side::Bid, seen)),
@@ -108,7 +108,7 @@ pub fn put_quote(row: &mut [u8], bytes: &[u8])
     requires { (row_size ≤ length row.old) × ((quote_length (get_or bytes.now 0 0) ≡ 0 → ⊥) × (length bytes.now ≡ quote_length (get_or bytes.now 0 0))) }
     ensures { row.new ≡ changed (quote_changes (quote_in bytes.now) row.old) row.old }
 {
-    field::write1(row, 53, field::read1(bytes, 15));
+    field::write::<u8>(row, 53, field::read::<u8>(bytes, 15));
     put_stamp(row, bytes);
     match bytes[0] {
         b'b' => put_short_side(row, Side::Bid, bytes),
@@ -124,7 +124,7 @@ pub fn put_action(row: &mut [u8], bytes: &[u8])
     requires { (row_size ≤ length row.old) × (16 ≤ length bytes.now) }
     ensures { row.new ≡ changed (action_changes (action_in bytes.now)) row.old }
 {
-    field::write1(row, 52, field::read1(bytes, 15));
+    field::write::<u8>(row, 52, field::read::<u8>(bytes, 15));
     put_stamp(row, bytes);
 }
 
@@ -132,10 +132,10 @@ fn put_start(row: &mut [u8], bytes: &[u8])
     requires { (row_size ≤ length row.old) × (63 ≤ length bytes.now) }
     ensures { row.new ≡ overlay row.old 0 (part bytes.now 11 32) }
 {
-    field::copy8(bytes, 11, row, 0);
-    field::copy8(bytes, 19, row, 8);
-    field::copy8(bytes, 27, row, 16);
-    field::copy8(bytes, 35, row, 24);
+    field::carry::<8>(bytes, 11, row, 0);
+    field::carry::<8>(bytes, 19, row, 8);
+    field::carry::<8>(bytes, 27, row, 16);
+    field::carry::<8>(bytes, 35, row, 24);
 }
 
 // The 52 bytes that a directory and a row share. The bytes are taken as a part of themselves, so that their place is handed over in a register.
@@ -145,9 +145,9 @@ fn put_entry(row: &mut [u8], bytes: &[u8])
 {
     let whole = &bytes[..];
     put_start(row, whole);
-    field::copy8(whole, 43, row, 32);
-    field::copy8(whole, 51, row, 40);
-    field::copy4(whole, 59, row, 48);
+    field::carry::<8>(whole, 43, row, 32);
+    field::carry::<8>(whole, 51, row, 40);
+    field::carry::<4>(whole, 59, row, 48);
 }
 
 // Are symbol, date, strike and type those of the row? The 16 bytes are compared as they lie.
@@ -168,7 +168,7 @@ pub fn put_directory(row: &mut [u8], bytes: &[u8])
 {
     put_entry(row, bytes);
     put_stamp(row, bytes);
-    if field::read1(bytes, 45) == b'N' {
+    if field::read::<u8>(bytes, 45) == b'N' {
         crate::purge(row);
     }
 }
@@ -180,6 +180,6 @@ pub fn put_new(row: &mut [u8], bytes: &[u8])
 {
     field::fill(row, 52, 72, 0);
     put_entry(row, bytes);
-    field::write1(row, 53, b' ');
+    field::write::<u8>(row, 53, b' ');
     put_stamp(row, bytes);
 }

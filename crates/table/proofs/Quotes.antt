@@ -15,8 +15,8 @@ use Rattle.message.specs.Letters.{listed, anything, conditions, long_price}
 use Rattle.message.specs.Message.{keeps, Typed}
 use Rattle.message.specs.declared.Message.{Message}
 use Rattle.message.specs.declared.Message.TheVariants as message
-use Rattle.message.specs.declared.ShortPrice.{ShortPrice}
-use Rattle.message.specs.declared.ShortPrice.TheVariants as short
+use Rattle.std.specs.Prelude.{Option}
+use Rattle.std.specs.declared.option.Option.TheVariants as short
 use Rattle.message.specs.declared.LongNumbers.{LongNumbers}
 use Rattle.message.specs.declared.ShortQuote.{ShortQuote}
 use Rattle.message.specs.declared.LongQuote.{LongQuote}
@@ -67,9 +67,9 @@ long_kept n h =
     (both_right (is_price n.price) (price_in_range (amount n.price)) h, both_left (is_price n.price) (price_in_range (amount n.price)) h)
 
 -- pennies of two bytes are a price in range
-pennies-kept : (p : ShortPrice) → amount (long_price p) < 256 ^ 2 → holds (price anything) (priced (long_price p)) ≡ true
+pennies-kept : (p : Option ℕ) → amount (long_price p) < 256 ^ 2 → holds (price anything) (priced (long_price p)) ≡ true
     → (price_in_range (amount (widened_price p)) ≡ true) × (is_price (widened_price p) ≡ true)
-pennies-kept (short.Above n) f h =
+pennies-kept (short.Some n) f h =
     (le-leb (suc (n * 100)) price_end (omega arith), le-leb 1 (n * 100) (omega (arith, leb-true 1 n (both_left (leb 1 n) true h))))
 pennies-kept short.None f h = (refl, refl)
 

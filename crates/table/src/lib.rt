@@ -4,7 +4,7 @@
 ghost use Rattle.std.specs.Prelude.{◌≡◌};
 ghost use Rattle.table.specs.Memory.{is_table, rows_fit, memories};
 ghost use Rattle.table.specs.Index.{is_lent};
-ghost use Rattle.table.specs.Board.{refusal_number, fresh_board, taken, denied, outcome, beside, start_of};
+ghost use Rattle.table.specs.Board.{refusal_number, number_in, fresh_board, taken, denied, outcome, beside, start_of};
 
 pub mod index;
 pub mod wire;
@@ -24,7 +24,7 @@ pub struct Board {
     pub live: u64,
 }
 
-#[derive(Clone, Copy)]
+#[derive(Clone, Copy, Debug, PartialEq, Eq)]
 pub enum Refusal {
     // Memory of the wrong length, more rows than it has, or an index that leads to none in use.
     Unfit,
@@ -50,15 +50,26 @@ pub struct Applied {
     pub verdict: Verdict,
 }
 
-pub fn refusal_number(r: Refusal) -> u8
-    ensures { result ≡ refusal_number r }
+impl From<Refusal> for u8 {
+    ghost from_gives = { λ r n. n ≡ refusal_number r };
+
+    fn from(r: Refusal) -> u8 {
+        match r {
+            Refusal::Unfit => 20,
+            Refusal::NoRow => 13,
+            Refusal::NoQuotes => 14,
+            Refusal::FixedField => 15,
+            Refusal::TableFull => 16,
+        }
+    }
+}
+
+pub fn number_of(v: Verdict) -> u8
+    ensures { result ≡ number_in v }
 {
-    match r {
-        Refusal::Unfit => 20,
-        Refusal::NoRow => 13,
-        Refusal::NoQuotes => 14,
-        Refusal::FixedField => 15,
-        Refusal::TableFull => 16,
+    match v {
+        Verdict::Accepted => 0,
+        Verdict::Refused(r) => u8::from(r),
     }
 }
 

@@ -85,7 +85,7 @@ pub fn place(rows: usize, bytes: &[u8], table: &mut [u8], index: &mut [u8]) -> P
     requires { Placeable rows bytes.now (memories table.old index.old) }
     ensures { (b : Board) (m : Message) (t : Texts) → b.rows ≡ rows → read_of bytes.now ≡ accepted m t → beside index.new (placed result b table.new) ≡ effect b m t (memories table.old index.old) }
 {
-    match index::find(index, table, rows, field::read4(bytes, 11)) {
+    match index::find(index, table, rows, field::read::<u32>(bytes, 11)) {
         Sought::Here(k) => {
             let from = k * row::ROW_SIZE;
             let to = from + row::ROW_SIZE;

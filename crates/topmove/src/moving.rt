@@ -47,7 +47,7 @@ fn facts(image: &[u8], moved: &[u8]) -> Moved
     Moved {
         size: moved.len(),
         version: head.version as u64,
-        rows: field::read2(moved, ROWS_AT) as u64,
+        rows: field::read::<u16>(moved, ROWS_AT) as u64,
         lost: moves::lost(image) as u64,
     }
 }

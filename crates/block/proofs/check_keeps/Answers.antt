@@ -3,4 +3,4 @@ use Rattle.block.proofs.Checks.{check-test}
 use Rattle.block.proofs.check_keeps.Goals as goal
 
 pub returns : goal.returns
-returns c = let s = c.args in check-test s.s.now s.at c.read2.ensures c.check.ensures
+returns c = let s = c.args in check-test s.s.now s.at c.read.ensures c.check.ensures

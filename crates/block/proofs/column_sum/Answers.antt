@@ -11,7 +11,7 @@ pub loop-strip-preserved : goal.loop-strip-preserved
 loop-strip-preserved c =
     let a = c.args in
     let l = c.loop-strip in
-    let runs = runs-turn a.s.now a.at l.strip l.bytes l.sums (search rules) (search rules) (omega arith) c.read1.ensures l.invariant.1 in
+    let runs = runs-turn a.s.now a.at l.strip l.bytes l.sums (search rules) (search rules) (omega arith) c.read.ensures l.invariant.1 in
     (search rules, runs, omega arith, omega arith)
 
 pub overflow_mul-result : goal.overflow_mul-result

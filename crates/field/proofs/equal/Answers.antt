@@ -6,10 +6,7 @@ use Rattle.field.proofs.Same.{same_none, same_more}
 use Rattle.field.proofs.equal.Goals as goal
 
 pub loop-k-init : goal.loop-k-init
-loop-k-init c = (search rules, search same_none)
+loop-k-init c = search same_none
 
 pub loop-k-preserved : goal.loop-k-preserved
-loop-k-preserved c = (search rules, search (same_more, rules))
-
-pub returns : goal.returns
-returns c = let e : c.loop-k.k ≡ c.args.n = omega arith in cc
+loop-k-preserved c = search (same_more, rules)

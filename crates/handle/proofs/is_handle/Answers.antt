@@ -9,4 +9,4 @@ returns-then-bytes-ne-HANDLE_SIZE c = no-handle c.args.bytes.now (λ e. omega ar
 
 pub returns : goal.returns
 returns c =
-    flags-judged c.args.bytes.now (search rules) c.read1.ensures c.read1-2.ensures c.read1-3.ensures
+    flags-judged c.args.bytes.now (search rules) c.read.ensures c.read-2.ensures c.read-3.ensures

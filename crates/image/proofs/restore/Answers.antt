@@ -26,10 +26,10 @@ pub version-requires : goal.version-requires
 version-requires c = let l : Long c.args.image.now = search accepted-long in l.some
 
 pub renew-requires : goal.renew-requires
-renew-requires c = let l : length c.args.table.now ≡ table_size = search (told-long, rules) in let r = rows-room _ _ _ c.judge.ensures c.in-Accepted.is c.read-header.ensures in omega (arith, r, l)
+renew-requires c = let l : length c.args.table.now ≡ table_size = search (told-long, rules) in let r = rows-room _ _ _ c.judge.ensures c.in-Ok.is c.read-header.ensures in omega (arith, r, l)
 
-pub returns-in-Accepted : goal.returns-in-Accepted
-returns-in-Accepted c = search restore-accepts depth 14
+pub returns-in-Ok : goal.returns-in-Ok
+returns-in-Ok c = search restore-accepts depth 14
 
-pub returns-in-Refused : goal.returns-in-Refused
-returns-in-Refused c = search restore-refuses
+pub returns-in-Err : goal.returns-in-Err
+returns-in-Err c = search restore-refuses

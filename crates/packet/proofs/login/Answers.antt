@@ -6,8 +6,8 @@ use Rattle.packet.proofs.login.Goals as goal
 pub returns-then-login_follows : goal.returns-then-login_follows
 returns-then-login_follows c = search (login-yes, rules)
 
-pub returns-in-Bad : goal.returns-in-Bad
-returns-in-Bad c = search (login-bad, rules)
+pub returns-in-None : goal.returns-in-None
+returns-in-None c = search (login-bad, rules)
 
 pub returns-else-login_follows : goal.returns-else-login_follows
 returns-else-login_follows c = search (login-no, rules)

@@ -4,4 +4,4 @@ use Rattle.row.proofs.purge.Goals as goal
 
 pub returns : goal.returns
 returns c =
-    purge-put c.args.row.now c.write1.ensures c.fill.ensures c.fill-2.ensures
+    purge-put c.args.row.now c.write.ensures c.fill.ensures c.fill-2.ensures

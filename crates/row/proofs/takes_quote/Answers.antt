@@ -10,4 +10,4 @@ pub returns-then-not-state_takes_quote : goal.returns-then-not-state_takes_quote
 returns-then-not-state_takes_quote c = search (state-denies, not-true, rules)
 
 pub returns : goal.returns
-returns c = search (state-allows, ap (λ v. eqb v 89) c.read1.ensures, not-false, rules)
+returns c = search (state-allows, ap (λ v. eqb v 89) c.read.ensures, not-false, rules)

@@ -1,5 +1,9 @@
 -- `field::decimal::number_before_spaces` meets its contract. The first k characters are digits, and v is what they write.
 use borrow.Author.Rules.{rules}
+use native.Mathlib.Omega.{arith}
+use mathlib.Core.Path.{◌≡◌}
+use Rattle.field.specs.Bytes.{part}
+use Rattle.field.specs.Decimal.{Leads}
 use Rattle.field.proofs.Decimals.{leads-low, leads-all, before-high, before-past, digits-none, digits_more, value_none, value-more}
 use Rattle.field.proofs.decimal.number_before_spaces.Goals as goal
 
@@ -19,4 +23,7 @@ pub loop-k-preserved : goal.loop-k-preserved
 loop-k-preserved c = search (rules, value-more, digits_more)
 
 pub closed_number-requires-2 : goal.closed_number-requires-2
-closed_number-requires-2 c = search (rules, leads-all)
+closed_number-requires-2 c =
+    let l : Leads (part c.args.s.now c.args.at c.args.n) c.loop-k.k c.loop-k.v = search (rules, leads-all) in
+    let e : c.loop-k.k ≡ c.args.n = omega arith in
+    (search rules, omega arith, rw e at l)

@@ -9,7 +9,5 @@ use Rattle.field.specs.Decimal.{decimal}
 use Rattle.field.proofs.decimal.number_before_spaces.Given as goal
 
 abbrev pub invariant-loop-k : goal.invariant-loop-k
-invariant-loop-k l = (l.k ≤ l.n) × (l.v ≤ highest_number) × (l.v ≡ decimal (part l.s l.at l.k)) × (every is_digit (part l.s l.at l.k) ≡ true)
-
-abbrev pub decreases-loop-k : goal.decreases-loop-k
-decreases-loop-k l = l.n - l.k
+invariant-loop-k l =
+    (l.v ≤ highest_number) × (l.v ≡ decimal (part l.s l.at l.k)) × (every is_digit (part l.s l.at l.k) ≡ true)

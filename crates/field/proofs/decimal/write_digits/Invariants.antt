@@ -7,7 +7,5 @@ use Rattle.field.specs.Decimal.{digit_chars}
 use Rattle.field.proofs.decimal.write_digits.Given as goal
 
 abbrev pub invariant-loop-i : goal.invariant-loop-i
-invariant-loop-i l = (l.i ≤ l.n) × (l.rest ≡ l.v / 10 ^ (l.n - l.i)) × (l.out ≡ overlay l.initial.out (l.at + l.i) (digit_chars (l.n - l.i) l.v)) × (length l.out ≡ length l.initial.out)
-
-abbrev pub decreases-loop-i : goal.decreases-loop-i
-decreases-loop-i l = l.i
+invariant-loop-i l =
+    (l.rest ≡ l.v / 10 ^ (l.n - l.i)) × (l.out ≡ overlay l.initial.out (l.at + l.i) (digit_chars (l.n - l.i) l.v))

@@ -6,10 +6,7 @@ use Rattle.field.proofs.Same.{every-none, every_more}
 use Rattle.field.proofs.text.only.Goals as goal
 
 pub loop-k-init : goal.loop-k-init
-loop-k-init c = (search rules, search every-none)
+loop-k-init c = search every-none
 
 pub loop-k-preserved : goal.loop-k-preserved
-loop-k-preserved c = (search rules, search (every_more, rules))
-
-pub returns : goal.returns
-returns c = let e : c.loop-k.k ≡ c.args.n = omega arith in cc
+loop-k-preserved c = search (every_more, rules)

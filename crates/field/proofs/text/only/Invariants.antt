@@ -6,7 +6,5 @@ use Rattle.field.specs.Text.{every, within}
 use Rattle.field.proofs.text.only.Given as goal
 
 abbrev pub invariant-loop-k : goal.invariant-loop-k
-invariant-loop-k l = (l.k ≤ l.n) × (l.same ≡ every (within l.byte l.byte) (part l.s l.at l.k))
-
-abbrev pub decreases-loop-k : goal.decreases-loop-k
-decreases-loop-k l = l.n - l.k
+invariant-loop-k l =
+    l.same ≡ every (within l.byte l.byte) (part l.s l.at l.k)

@@ -7,7 +7,5 @@ use Rattle.image.specs.Moves.{along}
 use Rattle.image.proofs.each_row.all.Given as goal
 
 abbrev pub invariant-loop-k : goal.invariant-loop-k
-invariant-loop-k l = (l.k ≤ l.rows) × (l.table ≡ each_row (along l.way) l.k l.initial.table) × (length l.table ≡ length l.initial.table)
-
-abbrev pub decreases-loop-k : goal.decreases-loop-k
-decreases-loop-k l = l.rows - l.k
+invariant-loop-k l =
+    l.table ≡ each_row (along l.way) l.k l.initial.table

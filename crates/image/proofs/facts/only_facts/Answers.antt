@@ -3,4 +3,4 @@ use Rattle.image.proofs.Beside.{facts-keep}
 use Rattle.image.proofs.facts.only_facts.Goals as goal
 
 pub returns : goal.returns
-returns c = facts-keep c.args.image.now c.read1.ensures c.only.ensures
+returns c = facts-keep c.args.image.now c.read.ensures c.only.ensures

@@ -4,13 +4,13 @@ use borrow.Author.Rules.{rules}
 use Rattle.image.proofs.judge.checks_keep.Goals as goal
 
 pub loop-k-init : goal.loop-k-init
-loop-k-init c = (search rules, checks-none _)
+loop-k-init c = checks-none _
 
 pub returns-then-not-check_keeps : goal.returns-then-not-check_keeps
 returns-then-not-check_keeps c = search checks-stop
 
 pub loop-k-preserved : goal.loop-k-preserved
-loop-k-preserved c = (search rules, search checks-on)
+loop-k-preserved c = search checks-on
 
 pub returns : goal.returns
 returns c = search checks-end

@@ -8,13 +8,13 @@ pub returns-then-not-fit : goal.returns-then-not-fit
 returns-then-not-fit c = search (heads-range, head-fits)
 
 pub loop-k-init : goal.loop-k-init
-loop-k-init c = (search rules, below_none _)
+loop-k-init c = below_none _
 
 pub returns-then-not-head_keeps : goal.returns-then-not-head_keeps
 returns-then-not-head_keeps c = search (heads-stop, head-fits) depth 12
 
 pub loop-k-preserved : goal.loop-k-preserved
-loop-k-preserved c = (search rules, search heads-on)
+loop-k-preserved c = search heads-on
 
 pub returns : goal.returns
 returns c = search (heads-end, head-fits) depth 12

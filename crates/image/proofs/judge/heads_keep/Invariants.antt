@@ -7,7 +7,5 @@ use Rattle.image.specs.Restore.{head_keeps}
 use Rattle.image.proofs.judge.heads_keep.Given as goal
 
 abbrev pub invariant-loop-k : goal.invariant-loop-k
-invariant-loop-k l = (l.k ≤ l.count) × (all_below (head_keeps l.image l.count l.h) l.k ≡ true)
-
-abbrev pub decreases-loop-k : goal.decreases-loop-k
-decreases-loop-k l = l.count - l.k
+invariant-loop-k l =
+    all_below (head_keeps l.image l.count l.h) l.k ≡ true

@@ -8,7 +8,7 @@ use Rattle.image.proofs.moves.known_in.Goals as goal
 -- the times of the first k rows are counted, at most two of each
 
 pub loop-k-init : goal.loop-k-init
-loop-k-init c = (search rules, omega arith, known-begin _)
+loop-k-init c = (omega arith, known-begin _)
 
 pub place-at-requires : goal.place-at-requires
 place-at-requires c = let p = row_inside c.args.image.now c.requires.0 c.args.used c.requires.1 c.loop-k.k _ (omega arith) refl in omega arith
@@ -26,7 +26,7 @@ pub overflow_add-total : goal.overflow_add-total
 overflow_add-total c = let u = few-used c.args.image.now c.requires.0 c.args.used c.requires.1 in omega arith
 
 pub loop-k-preserved : goal.loop-k-preserved
-loop-k-preserved c = (search rules, omega arith, known-turn c.args.image.now c.requires.0 c.args.used c.requires.1 _ _ (omega arith) c.place-at.ensures c.loop-k.invariant.2 c.known_times-total.ensures.0)
+loop-k-preserved c = (omega arith, known-turn c.args.image.now c.requires.0 c.args.used c.requires.1 _ _ (omega arith) c.place-at.ensures c.loop-k.invariant.1 c.known_times-total.ensures.0)
 
 pub returns : goal.returns
 returns c = search known-end

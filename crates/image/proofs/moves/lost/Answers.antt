@@ -10,8 +10,8 @@ read-h-requires c = search lost-long
 pub known_in-requires : goal.known_in-requires
 known_in-requires c = (search lost-taken, ap (λ (h : Header). h.board.rows) c.read-h.ensures)
 
-pub returns-in-Accepted : goal.returns-in-Accepted
-returns-in-Accepted c = search lost-counted
+pub returns-in-Ok : goal.returns-in-Ok
+returns-in-Ok c = search lost-counted
 
-pub returns-in-Refused : goal.returns-in-Refused
-returns-in-Refused c = search lost-refused
+pub returns-in-Err : goal.returns-in-Err
+returns-in-Err c = search lost-refused

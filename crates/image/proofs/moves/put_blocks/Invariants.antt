@@ -10,7 +10,5 @@ use Rattle.image.specs.Moves.{along}
 use Rattle.image.proofs.moves.put_blocks.Given as goal
 
 abbrev pub invariant-loop-k : goal.invariant-loop-k
-invariant-loop-k l = (l.k ≤ l.count) × (l.out ≡ overlay l.initial.out 0 (blocks l.version l.h (each_row (along l.way) l.h.board.rows (rows_of l.image)) l.k)) × (length l.out ≡ length l.initial.out)
-
-abbrev pub decreases-loop-k : goal.decreases-loop-k
-decreases-loop-k l = l.count - l.k
+invariant-loop-k l =
+    l.out ≡ overlay l.initial.out 0 (blocks l.version l.h (each_row (along l.way) l.h.board.rows (rows_of l.image)) l.k)

@@ -6,10 +6,10 @@ use borrow.Author.Rules.{rules}
 use Rattle.image.proofs.pages.put_blocks.Goals as goal
 
 pub loop-k-init : goal.loop-k-init
-loop-k-init c = (search rules, blocks-none _ _ _ _, refl)
+loop-k-init c = blocks-none _ _ _ _
 
 pub loop-k-preserved : goal.loop-k-preserved
-loop-k-preserved c = let l : length c.args.h.session ≡ 10 = search (rules, c) in (search rules, search (blocks-turn, c) depth 14, search rules)
+loop-k-preserved c = let l : length c.args.h.session ≡ 10 = search (rules, c) in search (blocks-turn, c) depth 14
 
 pub returns : goal.returns
 returns c = search blocks-all

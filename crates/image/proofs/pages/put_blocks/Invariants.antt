@@ -8,7 +8,5 @@ use Rattle.image.specs.Save.{blocks}
 use Rattle.image.proofs.pages.put_blocks.Given as goal
 
 abbrev pub invariant-loop-k : goal.invariant-loop-k
-invariant-loop-k l = (l.k ≤ l.count) × (l.out ≡ overlay l.initial.out 0 (blocks newest l.h l.table l.k)) × (length l.out ≡ length l.initial.out)
-
-abbrev pub decreases-loop-k : goal.decreases-loop-k
-decreases-loop-k l = l.count - l.k
+invariant-loop-k l =
+    l.out ≡ overlay l.initial.out 0 (blocks newest l.h l.table l.k)

@@ -8,7 +8,5 @@ use Rattle.image.specs.Shape.{pages, first_page}
 use Rattle.image.proofs.pages.take.Given as goal
 
 abbrev pub invariant-loop-k : goal.invariant-loop-k
-invariant-loop-k l = (l.k ≤ l.n) × (l.table ≡ overlay l.initial.table 0 (pages l.image first_page block_size l.k)) × (length l.table ≡ length l.initial.table)
-
-abbrev pub decreases-loop-k : goal.decreases-loop-k
-decreases-loop-k l = l.n - l.k
+invariant-loop-k l =
+    l.table ≡ overlay l.initial.table 0 (pages l.image first_page block_size l.k)

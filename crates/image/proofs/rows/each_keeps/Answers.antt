@@ -7,7 +7,7 @@ use borrow.Author.Rules.{rules}
 use Rattle.image.proofs.rows.each_keeps.Goals as goal
 
 pub loop-k-init : goal.loop-k-init
-loop-k-init c = (search rules, below_none _)
+loop-k-init c = below_none _
 
 pub place-at-requires : goal.place-at-requires
 place-at-requires c = let p = row_fits c.args.s.now c.args.base c.args.stride c.args.rows c.loop-k.k c.requires (omega arith) in omega arith
@@ -25,7 +25,7 @@ pub returns-then-not-keep : goal.returns-then-not-keep
 returns-then-not-keep c = search row-breaks
 
 pub loop-k-preserved : goal.loop-k-preserved
-loop-k-preserved c = (search rules, search row-good)
+loop-k-preserved c = search row-good
 
 pub returns : goal.returns
 returns c = search below_end

@@ -7,7 +7,5 @@ use Rattle.image.specs.Ids.{good_row}
 use Rattle.image.proofs.rows.each_keeps.Given as goal
 
 abbrev pub invariant-loop-k : goal.invariant-loop-k
-invariant-loop-k l = (l.k ≤ l.rows) × (all_below (good_row l.version (pages l.s l.base l.stride (pages_for l.rows))) l.k ≡ true)
-
-abbrev pub decreases-loop-k : goal.decreases-loop-k
-decreases-loop-k l = l.rows - l.k
+invariant-loop-k l =
+    all_below (good_row l.version (pages l.s l.base l.stride (pages_for l.rows))) l.k ≡ true

@@ -10,22 +10,22 @@ use Rattle.image.proofs.rows.each_new.Goals as goal
 -- the ids of the first k rows are gathered, and none of them is there twice
 
 pub loop-k-init : goal.loop-k-init
-loop-k-init c = (search rules, refl, gathered_none _ _, below_none _)
+loop-k-init c = (gathered_none _ _, below_none _)
 
 pub place-requires : goal.place-requires
 place-requires c = let p = row_fits c.args.s.now c.args.base c.args.stride c.args.rows c.loop-k.k c.requires.0 (omega arith) in omega arith
 
-pub read4-requires : goal.read4-requires
-read4-requires c = let p = row_fits c.args.s.now c.args.base c.args.stride c.args.rows c.loop-k.k c.requires.0 (omega arith) in omega arith
+pub read-requires : goal.read-requires
+read-requires c = let p = row_fits c.args.s.now c.args.base c.args.stride c.args.rows c.loop-k.k c.requires.0 (omega arith) in omega arith
 
 pub enter-requires : goal.enter-requires
-enter-requires c = (c.loop-k.invariant.2.rising, search rules)
+enter-requires c = (c.loop-k.invariant.0.rising, search rules)
 
 pub returns-then-not-enter : goal.returns-then-not-enter
 returns-then-not-enter c = search (id-twice, id-there)
 
 pub loop-k-preserved : goal.loop-k-preserved
-loop-k-preserved c = (search rules, search rules, search (id-gathered, id-there), search (id-once, id-there))
+loop-k-preserved c = (search (id-gathered, id-there), search (id-once, id-there))
 
 pub returns : goal.returns
 returns c = search below_end

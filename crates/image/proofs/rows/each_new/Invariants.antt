@@ -10,7 +10,4 @@ use Rattle.image.proofs.rows.each_new.Given as goal
 
 abbrev pub invariant-loop-k : goal.invariant-loop-k
 invariant-loop-k l =
-    (l.k ≤ l.rows) × (length l.rising ≡ length l.initial.rising) × Gathered l.k (pages l.s l.base l.stride (pages_for l.rows)) l.rising × (all_below (own_id (pages l.s l.base l.stride (pages_for l.rows))) l.k ≡ true)
-
-abbrev pub decreases-loop-k : goal.decreases-loop-k
-decreases-loop-k l = l.rows - l.k
+    Gathered l.k (pages l.s l.base l.stride (pages_for l.rows)) l.rising × (all_below (own_id (pages l.s l.base l.stride (pages_for l.rows))) l.k ≡ true)

@@ -7,9 +7,9 @@ pub returns : goal.returns
 unfolding values
 returns c i =
     record {
-      market = c.read4.ensures i;
-      price = (c.long.ensures ∙ ap price_from c.read4-2.ensures) i;
-      size = c.read4-3.ensures i;
-      customer = c.read4-4.ensures i;
-      professional = c.read4-5.ensures i;
+      market = c.read.ensures i;
+      price = (c.long.ensures ∙ ap price_from c.read-2.ensures) i;
+      size = c.read-3.ensures i;
+      customer = c.read-4.ensures i;
+      professional = c.read-5.ensures i;
     }

@@ -4,4 +4,4 @@ use Rattle.message.proofs.numbers.put_long.Goals as goal
 
 pub returns : goal.returns
 returns c =
-    long-numbers-put c.args.out.now c.args.at c.args.n c.amount.ensures c.requires c.write4.ensures c.write4-2.ensures c.write4-3.ensures c.write4-4.ensures c.write4-5.ensures
+    long-numbers-put c.args.out.now c.args.at c.args.n c.amount.ensures c.requires c.write.ensures c.write-2.ensures c.write-3.ensures c.write-4.ensures c.write-5.ensures

@@ -9,9 +9,9 @@ pub returns : goal.returns
 unfolding values
 returns c i =
     record {
-      market = c.read2.ensures i;
-      price = (c.short.ensures ∙ ap (λ (n : ℕ). short_price (price_from n)) c.read2-2.ensures) i;
-      size = c.read2-3.ensures i;
-      customer = c.read2-4.ensures i;
-      professional = c.read2-5.ensures i;
+      market = c.read.ensures i;
+      price = (c.short.ensures ∙ ap (λ (n : ℕ). short_price (price_from n)) c.read-2.ensures) i;
+      size = c.read-3.ensures i;
+      customer = c.read-4.ensures i;
+      professional = c.read-5.ensures i;
     }

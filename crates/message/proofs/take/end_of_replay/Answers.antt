@@ -3,8 +3,8 @@ use borrow.Author.Rules.{rules}
 use Rattle.message.proofs.Ways.{number-taken, no-number-taken}
 use Rattle.message.proofs.take.end_of_replay.Goals as goal
 
-pub returns-in-Is : goal.returns-in-Is
-returns-in-Is c = search (number-taken, rules)
+pub returns-in-Some : goal.returns-in-Some
+returns-in-Some c = search (number-taken, rules)
 
-pub returns-in-Bad : goal.returns-in-Bad
-returns-in-Bad c = search (no-number-taken, rules)
+pub returns-in-None : goal.returns-in-None
+returns-in-None c = search (no-number-taken, rules)

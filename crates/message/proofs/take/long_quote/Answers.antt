@@ -7,7 +7,7 @@ unfolding values
 returns c i =
     record {
       stamp = c.stamp.ensures i;
-      id = c.read4.ensures i;
+      id = c.read.ensures i;
       condition = c.condition.ensures i;
       bid = c.long.ensures i;
       ask = c.long-2.ensures i;

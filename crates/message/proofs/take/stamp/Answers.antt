@@ -6,6 +6,6 @@ pub returns : goal.returns
 unfolding values
 returns c i =
     record {
-      tracking = c.read2.ensures i;
+      tracking = c.read.ensures i;
       time = c.time.ensures i;
     }

@@ -7,5 +7,5 @@ unfolding values
 returns c i =
     record {
       stamp = c.stamp.ensures i;
-      code = c.read1.ensures i;
+      code = c.read.ensures i;
     }

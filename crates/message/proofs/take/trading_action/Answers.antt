@@ -7,6 +7,6 @@ unfolding values
 returns c i =
     record {
       stamp = c.stamp.ensures i;
-      id = c.read4.ensures i;
-      state = c.read1.ensures i;
+      id = c.read.ensures i;
+      state = c.read-2.ensures i;
     }

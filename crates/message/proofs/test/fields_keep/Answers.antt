@@ -12,9 +12,9 @@ pub time_keeps-requires : goal.time_keeps-requires
 unfolding letters letter_among
 time_keeps-requires c = omega (arith, room 83 _ _ c.in-83.is c.requires.1)
 
-pub read1-requires : goal.read1-requires
+pub read-requires : goal.read-requires
 unfolding letters letter_among
-read1-requires c = room 83 _ _ c.in-83.is c.requires.1
+read-requires c = room 83 _ _ c.in-83.is c.requires.1
 
 pub time_keeps-requires-in-109 : goal.time_keeps-requires-in-109
 unfolding letters letter_among
@@ -28,9 +28,9 @@ pub time_keeps-requires-in-72 : goal.time_keeps-requires-in-72
 unfolding letters letter_among
 time_keeps-requires-in-72 c = omega (arith, room 72 _ _ c.in-72.is c.requires.1)
 
-pub read1-requires-in-72 : goal.read1-requires-in-72
+pub read-requires-in-72 : goal.read-requires-in-72
 unfolding letters letter_among
-read1-requires-in-72 c = room 72 _ _ c.in-72.is c.requires.1
+read-requires-in-72 c = room 72 _ _ c.in-72.is c.requires.1
 
 pub number-requires : goal.number-requires
 number-requires c = search (number-room, rules)

@@ -12,8 +12,8 @@ time_keeps-requires c = search (room-time, rules)
 pub returns-then-not-time_keeps : goal.returns-then-not-time_keeps
 returns-then-not-time_keeps c = search (quote-time, rules)
 
-pub read1-requires : goal.read1-requires
-read1-requires c = search (room-head, rules)
+pub read-requires : goal.read-requires
+read-requires c = search (room-head, rules)
 
 pub returns-then-not-is_condition : goal.returns-then-not-is_condition
 returns-then-not-is_condition c = search (quote-condition, rules)

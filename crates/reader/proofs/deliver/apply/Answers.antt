@@ -15,8 +15,8 @@ use Rattle.reader.proofs.deliver.apply.Goals.{then-size-eq0+else-letter-eq83+els
 pub bounds-body-0 : goal.bounds-body-0
 bounds-body-0 c = search (passed-some, rules)
 
-pub read1-requires : goal.read1-requires
-read1-requires c = search (event-room, rules)
+pub read-requires : goal.read-requires
+read-requires c = search (event-room, rules)
 
 pub put_event-requires : goal.put_event-requires
 put_event-requires c = search (handle-length, rules)

@@ -25,12 +25,12 @@ returns-then-kind-eq-LOGIN c =
 pub bounds-bytes-3 : goal.bounds-bytes-3
 bounds-bytes-3 c = omega (arith, c.requires.reasoned c.if-kind-eq-REJECTED.true)
 
-pub write1-requires : goal.write1-requires
-write1-requires c = omega (arith, c.requires.long)
+pub write-requires : goal.write-requires
+write-requires c = omega (arith, c.requires.long)
 
 pub returns-then-kind-eq-REJECTED : goal.returns-then-kind-eq-REJECTED
 returns-then-kind-eq-REJECTED c =
-    tell-rejected c.args.number c.args.handle.now c.args.bytes.now c.args.event.now refl c.if-kind-eq-REJECTED.true c.write1.ensures
+    tell-rejected c.args.number c.args.handle.now c.args.bytes.now c.args.event.now refl c.if-kind-eq-REJECTED.true c.write.ensures
 
 pub returns-else-kind-eq-REJECTED : goal.returns-else-kind-eq-REJECTED
 returns-else-kind-eq-REJECTED c =

@@ -10,13 +10,13 @@ use Rattle.record.proofs.Sent.{event-kept, directory-kept, action-kept, short-ke
 use Rattle.record.proofs.back.keep.Goals as goal
 
 pub returns-in-83 : goal.returns-in-83
-returns-in-83 c = event-kept c.args.letter c.args.kept.now c.time_keeps.ensures c.in-83.is c.read1.ensures c.is_event.ensures
+returns-in-83 c = event-kept c.args.letter c.args.kept.now c.time_keeps.ensures c.in-83.is c.read.ensures c.is_event.ensures
 
 pub returns-in-109 : goal.returns-in-109
 returns-in-109 c = directory-kept c.args.letter c.args.kept.now c.time_keeps-in-109.ensures c.in-109.is c.keep_at.ensures
 
 pub returns-in-72 : goal.returns-in-72
-returns-in-72 c = action-kept c.args.letter c.args.kept.now c.time_keeps-in-72.ensures c.in-72.is c.read1-in-72.ensures c.is_state.ensures
+returns-in-72 c = action-kept c.args.letter c.args.kept.now c.time_keeps-in-72.ensures c.in-72.is c.read-in-72.ensures c.is_state.ensures
 
 pub returns-in-113 : goal.returns-in-113
 unfolding letters record_letters letter_among keeps_all values
@@ -42,4 +42,4 @@ returns-in-65 c = ask-kept c.args.letter c.args.kept.now c.head_keeps-in-65.ensu
 pub returns-in_default : goal.returns-in_default
 returns-in_default c =
     let r = c.in_default.in_default-own.rest in
-    number-kept c.args.letter c.args.kept.now (last_arm _ r.0.0.0.0.0.0.0.0.1 r.0.0.0.0.0.0.0.1 r.0.0.0.0.0.0.1 r.0.0.0.0.0.1 r.0.0.0.0.1 r.0.0.0.1 r.0.0.1 r.0.1 r.1 c.requires.0) c.read8.ensures c.number_in_range.ensures
+    number-kept c.args.letter c.args.kept.now (last_arm _ r.0.0.0.0.0.0.0.0.1 r.0.0.0.0.0.0.0.1 r.0.0.0.0.0.0.1 r.0.0.0.0.0.1 r.0.0.0.0.1 r.0.0.0.1 r.0.0.1 r.0.1 r.1 c.requires.0) c.read-in_default.ensures c.number_in_range.ensures

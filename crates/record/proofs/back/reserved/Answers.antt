@@ -7,4 +7,4 @@ use Rattle.record.proofs.back.reserved.Goals as goal
 
 pub returns : goal.returns
 returns c =
-    carried-run c.args.kept.now 96 c.args.out.now 47 8 (8 ∷ []) (omega arith) (omega arith) c.copy8.ensures (_, c.copy8-2.ensures, refl)
+    carried-run c.args.kept.now 96 c.args.out.now 47 8 (8 ∷ []) (omega arith) (omega arith) c.carry.ensures (_, c.carry-2.ensures, refl)

@@ -12,4 +12,4 @@ returns c =
     laid-moved (short_places c.args.at) (short_numbers_rows c.args.to) c.args.kept.now c.args.out.now _
     (omega arith, refl, refl, refl, (omega arith, refl, refl, refl, (omega arith, refl, refl, refl, (omega arith, refl, refl, refl, (omega arith, refl, refl, refl, tt)))))
     (lent-bytes c.args.kept.now c.type_inv.kept)
-    (_, c.copy2.ensures, (_, c.copy2-2.ensures, (_, c.copy2-3.ensures, (_, c.copy2-4.ensures, (_, c.copy2-5.ensures, refl)))))
+    (_, c.carry.ensures, (_, c.carry-2.ensures, (_, c.carry-3.ensures, (_, c.carry-4.ensures, (_, c.carry-5.ensures, refl)))))

@@ -10,4 +10,4 @@ use Rattle.record.proofs.back.stamp.Goals as goal
 pub returns : goal.returns
 unfolding paired
 returns c =
-    moved record_size (letter_place ∷ stamp_places) (letter_place ∷ stamp_rows) c.args.kept.now c.args.out.now refl (omega arith) c.type_inv.kept (_, c.copy1.ensures, (_, c.copy2.ensures, (_, c.copy8.ensures, refl)))
+    moved record_size (letter_place ∷ stamp_places) (letter_place ∷ stamp_rows) c.args.kept.now c.args.out.now refl (omega arith) c.type_inv.kept (_, c.carry.ensures, (_, c.carry-2.ensures, (_, c.carry-3.ensures, refl)))

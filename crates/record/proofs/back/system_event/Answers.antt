@@ -12,4 +12,4 @@ pub returns : goal.returns
 unfolding paired
 returns c =
     after (letter_place ∷ stamp_places) (letter_place ∷ stamp_rows) (drop 2 system_event_places) (drop 2 system_event_rows) c.args.kept.now c.args.out.now refl c.stamp.ensures
-    (moved record_size (drop 2 system_event_places) (drop 2 system_event_rows) c.args.kept.now _ refl (omega arith) c.type_inv.kept (_, c.copy1.ensures, refl))
+    (moved record_size (drop 2 system_event_places) (drop 2 system_event_rows) c.args.kept.now _ refl (omega arith) c.type_inv.kept (_, c.carry.ensures, refl))

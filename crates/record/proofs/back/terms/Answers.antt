@@ -10,4 +10,4 @@ use Rattle.record.proofs.back.terms.Goals as goal
 pub returns : goal.returns
 unfolding paired
 returns c =
-    moved record_size (take 5 instrument_places) (take 5 instrument_rows) c.args.kept.now c.args.out.now refl (omega arith) c.type_inv.kept (_, c.copy4.ensures, (_, c.copy8.ensures, (_, c.copy1.ensures, (_, c.copy1-2.ensures, (_, c.copy1-3.ensures, refl)))))
+    moved record_size (take 5 instrument_places) (take 5 instrument_rows) c.args.kept.now c.args.out.now refl (omega arith) c.type_inv.kept (_, c.carry.ensures, (_, c.carry-2.ensures, (_, c.carry-3.ensures, (_, c.carry-4.ensures, (_, c.carry-5.ensures, refl)))))

@@ -7,4 +7,4 @@ use Rattle.record.proofs.back.underlying.Goals as goal
 
 pub returns : goal.returns
 returns c =
-    carried-run c.args.kept.now 83 c.args.out.now 31 8 (4 ∷ 1 ∷ []) (omega arith) (omega arith) c.copy8.ensures (_, c.copy4.ensures, (_, c.copy1.ensures, refl))
+    carried-run c.args.kept.now 83 c.args.out.now 31 8 (4 ∷ 1 ∷ []) (omega arith) (omega arith) c.carry.ensures (_, c.carry-2.ensures, (_, c.carry-3.ensures, refl))

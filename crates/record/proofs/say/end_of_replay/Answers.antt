@@ -10,5 +10,5 @@ pub returns : goal.returns
 unfolding values said_by
 returns c =
     c.bare.ensures ∙ said-as message.EndOfReplay (λ i. record {
-      number = c.read8.ensures i;
+      number = c.read.ensures i;
     })

@@ -11,8 +11,8 @@ unfolding values said_by
 returns c =
     c.bare.ensures ∙ said-as message.LongQuote (λ i. record {
       stamp = c.stamp.ensures i;
-      id = c.read4.ensures i;
-      condition = c.read1.ensures i;
+      id = c.read.ensures i;
+      condition = c.read-2.ensures i;
       bid = c.long.ensures i;
       ask = c.long-2.ensures i;
     })

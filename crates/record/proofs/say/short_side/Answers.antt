@@ -14,8 +14,8 @@ unfolding values said_by
 returns c =
     c.bare.ensures ∙ said-as message.ShortSide (λ i. record {
       stamp = c.stamp.ensures i;
-      id = c.read4.ensures i;
-      condition = c.read1.ensures i;
+      id = c.read.ensures i;
+      condition = c.read-2.ensures i;
       side = c.args.side;
       numbers = (c.short.ensures ∙ ap (λ (at : ℕ). short_numbers_of (values (short_places at) c.args.bytes.now)) c.side_at.ensures.0) i;
     })

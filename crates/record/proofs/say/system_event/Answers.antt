@@ -11,5 +11,5 @@ unfolding values said_by
 returns c =
     c.bare.ensures ∙ said-as message.SystemEvent (λ i. record {
       stamp = c.stamp.ensures i;
-      code = c.read1.ensures i;
+      code = c.read.ensures i;
     })

@@ -11,6 +11,6 @@ unfolding values said_by
 returns c =
     c.bare.ensures ∙ said-as message.TradingAction (λ i. record {
       stamp = c.stamp.ensures i;
-      id = c.read4.ensures i;
-      state = c.read1.ensures i;
+      id = c.read.ensures i;
+      state = c.read-2.ensures i;
     })

@@ -5,4 +5,4 @@ use Rattle.record.proofs.wire.terms.Goals as goal
 
 pub returns : goal.returns
 returns c =
-    terms-moved c.args.out.now c.args.bytes.now c.type_inv.bytes c.requires.0 (search rules) c.copy4.ensures c.copy8.ensures c.copy2.ensures c.copy1.ensures
+    terms-moved c.args.out.now c.args.bytes.now c.type_inv.bytes c.requires.0 (search rules) c.carry.ensures c.carry-2.ensures c.carry-3.ensures c.carry-4.ensures

@@ -4,4 +4,4 @@ use Rattle.row.proofs.rules.bare_keeps.Goals as goal
 
 pub returns : goal.returns
 unfolding bare_keeps
-returns c = rw (c.sides.ensures, c.read1.ensures)
+returns c = rw (c.sides.ensures, c.read.ensures)

@@ -7,8 +7,8 @@ use Rattle.message.specs.Test.{quote_length, quote_letters}
 use Rattle.row.proofs.Wired.{head-room, arm-room, last-room, quote-wire, arm-b, arm-a, arm-q, arm-B, arm-A, arm-Q}
 use Rattle.row.proofs.wire.put_quote.Goals as goal
 
-pub read1-requires : goal.read1-requires
-read1-requires c = head-room c.args.bytes.now c.requires.1.0 c.requires.1.1
+pub read-requires : goal.read-requires
+read-requires c = head-room c.args.bytes.now c.requires.1.0 c.requires.1.1
 
 pub put_stamp-requires : goal.put_stamp-requires
 put_stamp-requires c = (search rules, omega (arith, head-room c.args.bytes.now c.requires.1.0 c.requires.1.1))
@@ -38,25 +38,25 @@ put_long_both-requires c = let r = c.in_default.in_default-own.rest in (search r
 
 pub returns-in-98 : goal.returns-in-98
 returns-in-98 c =
-    quote-wire c.args.row.now c.args.bytes.now c.requires.0 c.read1.ensures c.write1.ensures c.put_stamp.ensures _ (arm-b _ c.in-98.is) c.put_short_side.ensures
+    quote-wire c.args.row.now c.args.bytes.now c.requires.0 c.read.ensures c.write.ensures c.put_stamp.ensures _ (arm-b _ c.in-98.is) c.put_short_side.ensures
 
 pub returns-in-97 : goal.returns-in-97
 returns-in-97 c =
-    quote-wire c.args.row.now c.args.bytes.now c.requires.0 c.read1.ensures c.write1.ensures c.put_stamp.ensures _ (arm-a _ c.in-97.is) c.put_short_side-in-97.ensures
+    quote-wire c.args.row.now c.args.bytes.now c.requires.0 c.read.ensures c.write.ensures c.put_stamp.ensures _ (arm-a _ c.in-97.is) c.put_short_side-in-97.ensures
 
 pub returns-in-113 : goal.returns-in-113
 returns-in-113 c =
-    quote-wire c.args.row.now c.args.bytes.now c.requires.0 c.read1.ensures c.write1.ensures c.put_stamp.ensures _ (arm-q _ c.in-113.is) c.put_short_both.ensures
+    quote-wire c.args.row.now c.args.bytes.now c.requires.0 c.read.ensures c.write.ensures c.put_stamp.ensures _ (arm-q _ c.in-113.is) c.put_short_both.ensures
 
 pub returns-in-66 : goal.returns-in-66
 returns-in-66 c =
-    quote-wire c.args.row.now c.args.bytes.now c.requires.0 c.read1.ensures c.write1.ensures c.put_stamp.ensures _ (arm-B _ c.in-66.is) c.put_long_side.ensures
+    quote-wire c.args.row.now c.args.bytes.now c.requires.0 c.read.ensures c.write.ensures c.put_stamp.ensures _ (arm-B _ c.in-66.is) c.put_long_side.ensures
 
 pub returns-in-65 : goal.returns-in-65
 returns-in-65 c =
-    quote-wire c.args.row.now c.args.bytes.now c.requires.0 c.read1.ensures c.write1.ensures c.put_stamp.ensures _ (arm-A _ c.in-65.is) c.put_long_side-in-65.ensures
+    quote-wire c.args.row.now c.args.bytes.now c.requires.0 c.read.ensures c.write.ensures c.put_stamp.ensures _ (arm-A _ c.in-65.is) c.put_long_side-in-65.ensures
 
 pub returns-in_default : goal.returns-in_default
 returns-in_default c =
     let r = c.in_default.in_default-own.rest in
-    quote-wire c.args.row.now c.args.bytes.now c.requires.0 c.read1.ensures c.write1.ensures c.put_stamp.ensures _ (arm-Q _ r.0.0.0.0.1 r.0.0.0.1 r.0.0.1 r.0.1 r.1) c.put_long_both.ensures
+    quote-wire c.args.row.now c.args.bytes.now c.requires.0 c.read.ensures c.write.ensures c.put_stamp.ensures _ (arm-Q _ r.0.0.0.0.1 r.0.0.0.1 r.0.0.1 r.0.1 r.1) c.put_long_both.ensures

@@ -7,8 +7,8 @@ use Rattle.table.proofs.Ways.{found-fits}
 use Rattle.table.proofs.Wired.{rowed, id-room, place_found, place_none, place-astray}
 use Rattle.table.proofs.wire.place.Goals as goal
 
-pub read4-requires : goal.read4-requires
-read4-requires c = id-room _ (rowed c.requires)
+pub read-requires : goal.read-requires
+read-requires c = id-room _ (rowed c.requires)
 
 pub find-requires : goal.find-requires
 find-requires c = omega arith
@@ -37,12 +37,12 @@ pub returns-in-Here : goal.returns-in-Here
 unfolding part
 returns-in-Here c =
     let h = found-fits _ _ _ _ _ c.requires.fitting.0 c.find.ensures c.in-Here.is in
-    place_found _ _ _ (rowed c.requires) c.read4.ensures c.find.ensures c.in-Here.is h c.at_row.ensures (search rules)
+    place_found _ _ _ (rowed c.requires) c.read.ensures c.find.ensures c.in-Here.is h c.at_row.ensures (search rules)
 
 pub returns-in-Absent : goal.returns-in-Absent
 returns-in-Absent c =
-    place_none _ _ _ (rowed c.requires) c.read4.ensures c.find.ensures c.in-Absent.is c.add.ensures.at_none c.add.ensures.index_after
+    place_none _ _ _ (rowed c.requires) c.read.ensures c.find.ensures c.in-Absent.is c.add.ensures.at_none c.add.ensures.index_after
 
 pub returns-in-Astray : goal.returns-in-Astray
 returns-in-Astray c =
-    place-astray _ _ _ (rowed c.requires) c.read4.ensures c.find.ensures c.in-Astray.is
+    place-astray _ _ _ (rowed c.requires) c.read.ensures c.find.ensures c.in-Astray.is

@@ -1,7 +1,7 @@
--- `field::write1` meets its contract.
+-- `field::Number::write` of a `u8` meets its contract.
 use native.Mathlib.Omega.{arith}
 use Rattle.field.proofs.Numbers.{write-one}
-use Rattle.field.proofs.write1.Goals as goal
+use Rattle.field.proofs.U8Number.write.Goals as goal
 
 pub returns : goal.returns
 returns c = write-one _ _ _ (omega arith) (omega arith)
