@@ -10,8 +10,6 @@ use Rattle.message.specs.Message as messages
 use Rattle.message.specs.Message.{read_of}
 use Rattle.message.specs.declared.Message.{Message}
 use Rattle.message.specs.declared.Texts.{Texts}
-use Rattle.message.specs.declared.Answer as answers
-use Rattle.message.specs.declared.Answer.TheVariants as answer
 use Rattle.message.specs.declared.Refusal as message_refusal
 use Rattle.message.specs.declared.Refusal.TheVariants as message_refusals
 use Rattle.message.proofs.Typed.{read-typed}
@@ -25,8 +23,6 @@ use Rattle.table.specs.Board.{Indexed, outcome, accepted, fits, apply_of}
 use Rattle.table.specs.declared.Board.{Board}
 use Rattle.table.specs.declared.Refusal.{Refusal}
 use Rattle.table.specs.declared.Refusal.TheVariants.{Unfit, NoRow, NoQuotes, FixedField, TableFull}
-use Rattle.table.specs.declared.Verdict.{Verdict}
-use Rattle.table.specs.declared.Verdict.TheVariants.{Accepted, Refused}
 use Rattle.table.proofs.Ways.{fitting-rows, fitting-lent}
 use Rattle.table.proofs.Kept.{apply-sound, apply-board}
 use Rattle.table.proofs.Exactly.{LeftBy, apply-leaves}
@@ -34,6 +30,9 @@ use Rattle.table.proofs.Truth.{never-astray, apply-sorted}
 use Rattle.reader.specs.Refusals.{standing}
 use Rattle.reader.specs.Deliver.{Table, table_of, table_by, Said, said, settled_by, heard, deliver}
 use Rattle.demands.specs.Sound.{SoundTable}
+use Rattle.std.specs.Prelude.{Err}
+use Rattle.std.specs.Prelude.{Ok}
+use Rattle.std.specs.Prelude.{Result}
 
 -- ---- a refusal of the table other than 20 may stand
 
@@ -65,31 +64,31 @@ read-stands message_refusals.WrongLength = refl
 read-stands message_refusals.BadField = refl
 
 -- a search never goes astray there, so that no refusal is 20
-settled-kept : (t : Table) (m : Message) (x : Said) (v : Verdict) (b : Board) (l : Memories) → SoundTable t → LeftBy t.board m t.memory v b l
-    → (v ≡ Accepted → SoundTable (table_of b l)) → Delivers (settled_by v x (table_of b l))
-settled-kept t m x Accepted b l s h k = k refl
-settled-kept t m x (Refused r) b l s h k =
+settled-kept : (t : Table) (m : Message) (x : Said) (v : Result (Unit {0}) Refusal) (b : Board) (l : Memories) → SoundTable t → LeftBy t.board m t.memory v b l
+    → (v ≡ Ok (tt {0}) → SoundTable (table_of b l)) → Delivers (settled_by v x (table_of b l))
+settled-kept t m x (Ok u) b l s h k = k refl
+settled-kept t m x (Err r) b l s h k =
     (rw (h.0, h.1) s, refusal-stands r (h.2 (sound-lent t s) (never-astray t.board m t.memory s.index)))
 
 abbrev SortedBy : Indexed → Type 0
 SortedBy o = Sorted o.outcome.applied.board.rows o.index o.outcome.memory
 
 applied-sound : (t : Table) (m : Message) (texts : Texts) → SoundTable t → messages.Typed m texts × (messages.keeps m texts ≡ true)
-    → (o : Indexed) → apply_of t.board m texts t.memory ≡ o → o.outcome.applied.verdict ≡ Accepted → SoundTable (table_by o)
+    → (o : Indexed) → apply_of t.board m texts t.memory ≡ o → o.outcome.applied.verdict ≡ Ok (tt {0}) → SoundTable (table_by o)
 applied-sound t m texts s f o e v =
     let p = o.outcome in
     let a : (apply_of t.board m texts t.memory).outcome ≡ accepted p.applied.board p.memory
-    = ap (λ (i : Indexed). i.outcome) e ∙ ap (λ (w : Verdict). outcome (record { board = p.applied.board; verdict = w }) p.memory) v in
+    = ap (λ (i : Indexed). i.outcome) e ∙ ap (λ (w : Result (Unit {0}) Refusal). outcome (record { board = p.applied.board; verdict = w }) p.memory) v in
     record {
       rows = apply-sound t.board m texts t.memory p.applied.board p.memory s.rows s.index f.0 f.1 a;
       board = apply-board t.board m texts t.memory p.applied.board p.memory s.board f.1 a;
       index = subst SortedBy e (apply-sorted t.board m texts t.memory s.index s.rows.sized f.0);
     }
 
-heard-kept : (t : Table) (texts : Texts) (a : answers.Answer) → SoundTable t
-    → ((m : Message) → a ≡ answer.Is m → messages.Typed m texts × (messages.keeps m texts ≡ true)) → Delivers (heard t texts a)
-heard-kept t texts (answer.Refused r) s f = (s, read-stands r)
-heard-kept t texts (answer.Is m) s f =
+heard-kept : (t : Table) (texts : Texts) (a : Result Message message_refusal.Refusal) → SoundTable t
+    → ((m : Message) → a ≡ Ok m → messages.Typed m texts × (messages.keeps m texts ≡ true)) → Delivers (heard t texts a)
+heard-kept t texts (Err r) s f = (s, read-stands r)
+heard-kept t texts (Ok m) s f =
     let o = apply_of t.board m texts t.memory in
     settled-kept t m (said m texts) o.outcome.applied.verdict o.outcome.applied.board (table_by o).memory s (apply-leaves t.board m texts t.memory)
     (applied-sound t m texts s (f m refl) o refl)

@@ -11,8 +11,6 @@ use lib.ListN.{length, drop}
 use Rattle.message.specs.Message as messages
 use Rattle.message.specs.Message.{read_of}
 use Rattle.message.specs.declared.Message.{Message}
-use Rattle.message.specs.declared.Answer as answers
-use Rattle.message.specs.declared.Answer.TheVariants as read
 use Rattle.message.specs.declared.Refusal as message_refusal
 use Rattle.message.specs.declared.Refusal.TheVariants as message_refusals
 use Rattle.packet.specs.Frame.{Framed, short, bad_length, packet, frame}
@@ -36,8 +34,6 @@ use Rattle.table.specs.Board.{fits, look, effect_by, effect, apply_of}
 use Rattle.table.specs.declared.Board.{Board}
 use Rattle.table.specs.declared.index.Sought.{Sought}
 use Rattle.table.specs.declared.index.Sought.TheVariants.{Here, Absent, Astray}
-use Rattle.table.specs.declared.Verdict.{Verdict}
-use Rattle.table.specs.declared.Verdict.TheVariants.{Accepted, Refused}
 use Rattle.table.proofs.Ways.{rows-fitting, fitting-lent}
 use Rattle.table.proofs.Exactly.{LeftBy, apply-leaves}
 use Rattle.reader.specs.Refusals.{standing}
@@ -59,6 +55,11 @@ use Rattle.demands.specs.Same.{SameRun}
 use Rattle.demands.proofs.View.{refusal_in, refusal-of}
 use Rattle.demands.proofs.Equal.{answer-is, same_runs}
 use Rattle.demands.proofs.Refused.{steps-as, answered-as, runs_as, heeded-unmoved}
+use Rattle.std.specs.Prelude.{Err}
+use Rattle.std.specs.Prelude.{Ok}
+use Rattle.std.specs.Prelude.{Result}
+use Rattle.message.specs.declared.Refusal.{Refusal}
+use Rattle.table.specs.declared.Refusal as table_refusal
 
 -- ---- a message
 
@@ -78,14 +79,14 @@ is_astray (Absent p) = false
 is_astray Astray = true
 
 module _ (t : Table) (body : List ℕ) (fit : lent_fit t.board.rows t.memory ≡ true) where
-  settled-not : (m : Message) (x : Said) (v : Verdict) (b : Board) (l : Memories) → LeftBy t.board m t.memory v b l
+  settled-not : (m : Message) (x : Said) (v : Result (Unit {0}) table_refusal.Refusal) (b : Board) (l : Memories) → LeftBy t.board m t.memory v b l
       → (look t.board m t.memory ≡ Astray → ⊥) → Denied20 (settled_by v x (table_of b l)) → ⊥
-  settled-not m x Accepted b l h d e = e
-  settled-not m x (Refused r) b l h d e = never (sym (h.2 fit d) ∙ ap (λ (n : ℕ). eqb n 20) e)
+  settled-not m x (Ok u) b l h d e = e
+  settled-not m x (Err r) b l h d e = never (sym (h.2 fit d) ∙ ap (λ (n : ℕ). eqb n 20) e)
 
-  heard-leads : (a : answers.Answer) → (read_of body).answer ≡ a → Denied20 (heard t (read_of body).texts a) → Leads t body
-  heard-leads (read.Refused r) i e = absurd (read-not r e)
-  heard-leads (read.Is m) i e = by (look t.board m t.memory) refl
+  heard-leads : (a : Result Message Refusal) → (read_of body).answer ≡ a → Denied20 (heard t (read_of body).texts a) → Leads t body
+  heard-leads (Err r) i e = absurd (read-not r e)
+  heard-leads (Ok m) i e = by (look t.board m t.memory) refl
     where
       not-by : (w : Sought) → is_astray w ≡ false → look t.board m t.memory ≡ w → ⊥
       not-by w f g =

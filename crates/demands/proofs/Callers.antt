@@ -30,7 +30,6 @@ use Rattle.reader.specs.Refusals.{standing}
 use Rattle.reader.specs.Deliver.{Table, Said, deliver}
 use Rattle.reader.specs.View.{session_of, held_of, state_of, Seen}
 use Rattle.reader.specs.Calls.{Begun, begun_of, fresh_on, verdict_number, start_number, start_all, Starting, Stepping}
-use Rattle.reader.specs.declared.StartAnswer.TheVariants.{Ready}
 use Rattle.reader.specs.declared.Reader.{Reader}
 use Rattle.reader.specs.declared.Stepped.{Stepped}
 use Rattle.reader.specs.declared.Started.{Started}
@@ -39,6 +38,7 @@ use Rattle.demands.specs.Sound.{begin, SoundSession, Ours}
 use Rattle.packet.proofs.Bytes.{bytes-none, spaces-bytes, bytes-append, bytes_left, bytes-right, bytes_drop}
 use Rattle.demands.proofs.Kept.{Kept, kept-ours, unfinished-in, stepping-is, step-ours}
 use Rattle.demands.proofs.Runs.{one-called, run-ours}
+use Rattle.std.specs.Prelude.{Ok}
 
 -- ---- steps and runs
 
@@ -110,7 +110,7 @@ begin-sound =
 
 -- the code's answer is that the reader is ready: memory was of the right length. The sizes are any, so that no list of zeros is made for them.
 ready : (n m : ℕ) (t : Memories) (s : Started) (t' : Memories) → (is_lent t ≡ true → (length t.table ≡ n) × (length t.index ≡ m))
-    → s.answer ≡ Ready → (y : Bool) → is_lent t ≡ y → (o : Indexed)
+    → s.answer ≡ Ok (tt {0}) → (y : Bool) → is_lent t ≡ y → (o : Indexed)
     → o ≡ cond y (beside (replicate (length t.index) 0) (accepted fresh_board (replicate (length t.table) 0))) (refused_beside Unfit fresh_board t)
     → begun_of s t' ≡ record { state = live (fresh_on o) []; used = 0; refusal = verdict_number o.outcome.applied.verdict }
     → (state_of s.reader t' ≡ live (session_of fresh_line fresh_board (memories (replicate n 0) (replicate m 0))) []) × (s.reader.used ≡ 0)
@@ -128,7 +128,7 @@ lent-sizes t e = (
   eqb-true (length t.index) index_size (both_right (is_table t.table) (is_index t.index) e),
 )
 
-module _ (t : Memories) (s : Started) (t₁ : Memories) (h : Starting t s t₁) (a : s.answer ≡ Ready) where
+module _ (t : Memories) (s : Started) (t₁ : Memories) (h : Starting t s t₁) (a : s.answer ≡ Ok (tt {0})) where
   pub started : (state_of s.reader t₁ ≡ live begin []) × (s.reader.used ≡ 0)
   unfolding start_all start_of
   started = ready table_size index_size t s t₁ (lent-sizes t) a (is_lent t) refl (start_of t) refl h

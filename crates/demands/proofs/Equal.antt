@@ -15,7 +15,6 @@ use Rattle.reader.specs.Deliver.{Table, Said}
 use Rattle.reader.specs.View.{event_of, answer_of, state_of, Seen, seen_of, held_in, session_in, session_of}
 use Rattle.reader.specs.Calls.{Stepping, Starting, Begun, begun_of, start_number}
 use Rattle.image.specs.Save.{Saving, saving}
-use Rattle.image.specs.declared.Saved.{Saved}
 use Rattle.reader.specs.Handles as hosts
 use Rattle.reader.specs.Handles.{Left, left, host_stepped, HostSteps}
 use Rattle.reader.specs.Running.{why_of, SeenRun, seen_run_of, Running, HostRuns}
@@ -27,8 +26,6 @@ use Rattle.reader.specs.declared.Event as code
 use Rattle.reader.specs.declared.Event.TheVariants as event
 use Rattle.reader.specs.declared.StepAnswer.{StepAnswer}
 use Rattle.reader.specs.declared.StepAnswer.TheVariants as answer
-use Rattle.reader.specs.declared.StartAnswer.{StartAnswer}
-use Rattle.reader.specs.declared.StartAnswer.TheVariants as started
 use Rattle.reader.specs.declared.Reader.{Reader}
 use Rattle.reader.specs.declared.Stepped.{Stepped}
 use Rattle.reader.specs.declared.Why.{Why}
@@ -41,6 +38,10 @@ use Rattle.reader.proofs.Views.{session-in, held_in_lem}
 use Rattle.demands.specs.Same.{SameReader, SameStep, SameRun, SameStart, SameRestore}
 use Rattle.demands.proofs.View.{refusal_in, ended_in, ended_of, refusal-of}
 use Rattle.demands.proofs.Names.{saved-same, verdicts-same}
+use Rattle.std.specs.Prelude.{Err}
+use Rattle.std.specs.Prelude.{Ok}
+use Rattle.std.specs.Prelude.{Result}
+use Rattle.image.specs.declared.Refusal as image_refusal
 
 -- ---- the code's answer again, from the definition's
 
@@ -161,11 +162,11 @@ equal-host-runs handle t piece n a b h₁ h₂ t₁ t₂ x y =
 some-name : (r : Refusal) → refusal_number r ≡ 0 → ⊥
 some-name r = eqb-false (refusal_number r) 0 (some_number r)
 
-answers-same : (a b : StartAnswer) → start_number a ≡ start_number b → a ≡ b
-answers-same started.Ready started.Ready e = refl
-answers-same started.Ready (started.Refused r) e = absurd (some-name r (sym e))
-answers-same (started.Refused r) started.Ready e = absurd (some-name r e)
-answers-same (started.Refused r) (started.Refused q) e = ap started.Refused (equal-names r q e)
+answers-same : (a b : Result (Unit {0}) Refusal) → start_number a ≡ start_number b → a ≡ b
+answers-same (Ok u) (Ok u) e = refl
+answers-same (Ok u) (Err r) e = absurd (some-name r (sym e))
+answers-same (Err r) (Ok u) e = absurd (some-name r e)
+answers-same (Err r) (Err q) e = ap Err (equal-names r q e)
 
 -- THEOREM, of starting
 pub equal-starts : (t : Memories) (a b : Started) (t₁ t₂ : Memories) → Starting t a t₁ → Starting t b t₂ → SameStart a b t₁ t₂
@@ -177,7 +178,7 @@ equal-starts t a b t₁ t₂ x y =
 -- ---- of saving and restoring
 
 -- THEOREM, of saving
-pub equal-saves : (r : Reader) (t out : List ℕ) (a b : Saved) (z₁ z₂ : List ℕ) → Saves r t out a z₁ → Saves r t out b z₂ → (a ≡ b) × (z₁ ≡ z₂)
+pub equal-saves : (r : Reader) (t out : List ℕ) (a b : Result ℕ image_refusal.Refusal) (z₁ z₂ : List ℕ) → Saves r t out a z₁ → Saves r t out b z₂ → (a ≡ b) × (z₁ ≡ z₂)
 equal-saves r t out a b z₁ z₂ x y =
     let e : saving a z₁ ≡ saving b z₂ = saved-same a b z₁ z₂ (equal-answers x y) in
     (ap (λ (s : Saving). s.answer) e, ap (λ (s : Saving). s.out) e)

@@ -9,11 +9,10 @@ use lib.Dec.{eqb}
 use Rattle.image.specs.Save.{refusal_number, saving}
 use Rattle.image.specs.declared.Refusal.{Refusal}
 use Rattle.image.specs.declared.Refusal.TheVariants.{Unfit, BadLength, BadCheck, BadHead, BadContents, ShortOutput}
-use Rattle.image.specs.declared.Saved.{Saved}
-use Rattle.image.specs.declared.Saved.TheVariants.{Whole, Unsaved}
-use Rattle.image.specs.declared.Verdict.{Verdict}
-use Rattle.image.specs.declared.Verdict.TheVariants.{Accepted, Refused}
 use Rattle.reader.specs.Saving.{Written, written_of, restore_number}
+use Rattle.std.specs.Prelude.{Err}
+use Rattle.std.specs.Prelude.{Ok}
+use Rattle.std.specs.Prelude.{Result}
 
 -- ---- the refusals of saving and restoring
 
@@ -47,16 +46,16 @@ some-name r = eqb-false (refusal_number r) 0 (no_name r)
 
 -- ---- what is said of saving, and the verdict of restoring
 
-pub saved-same : (a b : Saved) (z y : List ℕ) → written_of a z ≡ written_of b y → saving a z ≡ saving b y
-saved-same (Whole n) (Whole m) z y e = ap (λ (w : Written). saving (Whole w.count) w.out) e
-saved-same (Whole n) (Unsaved r) z y e = absurd (some-name r (sym (ap (λ (w : Written). w.refusal) e)))
-saved-same (Unsaved r) (Whole m) z y e = absurd (some-name r (ap (λ (w : Written). w.refusal) e))
-saved-same (Unsaved r) (Unsaved q) z y e =
-    ap (λ (x : Refusal). saving (Unsaved x) z) (names_same r q (ap (λ (w : Written). w.refusal) e))
-    ∙ ap (saving (Unsaved q)) (ap (λ (w : Written). w.out) e)
+pub saved-same : (a b : Result ℕ Refusal) (z y : List ℕ) → written_of a z ≡ written_of b y → saving a z ≡ saving b y
+saved-same (Ok n) (Ok m) z y e = ap (λ (w : Written). saving (Ok w.count) w.out) e
+saved-same (Ok n) (Err r) z y e = absurd (some-name r (sym (ap (λ (w : Written). w.refusal) e)))
+saved-same (Err r) (Ok m) z y e = absurd (some-name r (ap (λ (w : Written). w.refusal) e))
+saved-same (Err r) (Err q) z y e =
+    ap (λ (x : Refusal). saving (Err x) z) (names_same r q (ap (λ (w : Written). w.refusal) e))
+    ∙ ap (saving (Err q)) (ap (λ (w : Written). w.out) e)
 
-pub verdicts-same : (v w : Verdict) → restore_number v ≡ restore_number w → v ≡ w
-verdicts-same Accepted Accepted e = refl
-verdicts-same Accepted (Refused r) e = absurd (some-name r (sym e))
-verdicts-same (Refused r) Accepted e = absurd (some-name r e)
-verdicts-same (Refused r) (Refused q) e = ap Refused (names_same r q e)
+pub verdicts-same : (v w : Result (Unit {0}) Refusal) → restore_number v ≡ restore_number w → v ≡ w
+verdicts-same (Ok u) (Ok u) e = refl
+verdicts-same (Ok u) (Err r) e = absurd (some-name r (sym e))
+verdicts-same (Err r) (Ok u) e = absurd (some-name r e)
+verdicts-same (Err r) (Err q) e = ap Err (names_same r q e)

@@ -14,8 +14,6 @@ use Rattle.message.specs.declared.Message.{Message}
 use Rattle.std.specs.Prelude.{None}
 use Rattle.message.specs.declared.Side.{Side}
 use Rattle.message.specs.declared.Texts.{Texts}
-use Rattle.message.specs.declared.Answer as answers
-use Rattle.message.specs.declared.Answer.TheVariants as answer
 use Rattle.message.proofs.Typed.{read-typed}
 use Rattle.message.proofs.NoZero.{kept-no-zero}
 use Rattle.packet.specs.Session.{Delivered, done, denied}
@@ -26,37 +24,40 @@ use Rattle.table.specs.Board.{Indexed, beside, outcome, accepted, look, apply_of
 use Rattle.table.specs.Places.{quoted_in, time_of}
 use Rattle.table.specs.declared.Board.{Board}
 use Rattle.table.specs.declared.index.Sought.TheVariants.{Here}
-use Rattle.table.specs.declared.Verdict.{Verdict}
-use Rattle.table.specs.declared.Verdict.TheVariants.{Accepted, Refused}
 use Rattle.table.proofs.Quotes.{quoted-price, quoted-time}
 use Rattle.table.proofs.Kept.{quoted-seen}
 use Rattle.reader.specs.Deliver.{Table, table_of, table_by, Said, said, settled_by, heard, deliver}
 use Rattle.demands.specs.Sound.{SoundTable}
+use Rattle.std.specs.Prelude.{Err}
+use Rattle.std.specs.Prelude.{Ok}
+use Rattle.std.specs.Prelude.{Result}
+use Rattle.message.specs.declared.Refusal.{Refusal}
+use Rattle.table.specs.declared.Refusal as table_refusal
 
 -- ---- an accepted message was read, and then applied
 
 pub record Taken (t : Table) (body : List ℕ) (x : Said) (t' : Table) : Type 0 where
-  pub read : (read_of body).answer ≡ answer.Is x.message
+  pub read : (read_of body).answer ≡ Ok x.message
   pub texts : (read_of body).texts ≡ x.texts
   pub applied : apply_of t.board x.message x.texts t.memory ≡ beside t'.memory.index (accepted t'.board t'.memory.table)
 
 no-denial : {A : Type 0} {n : ℕ} {t t' : Table} {x : Said} → ◌≡◌ {A = Delivered Table Said} (denied n t) (done x t') → A
 no-denial {n = n} {t = t} {t' = t'} {x = x} e = let z : ◌≡◌ {A = ℕ} 0 1 = cc in absurd (omega arith)
 
-settled-taken : (t t' : Table) (body : List ℕ) (m : Message) (x : Said) (v : Verdict) (b : Board) (l : Memories) → (read_of body).answer ≡ answer.Is m
+settled-taken : (t t' : Table) (body : List ℕ) (m : Message) (x : Said) (v : Result (Unit {0}) table_refusal.Refusal) (b : Board) (l : Memories) → (read_of body).answer ≡ Ok m
     → apply_of t.board m (read_of body).texts t.memory ≡ beside l.index (outcome (record { board = b; verdict = v }) l.table)
     → settled_by v (said m (read_of body).texts) (table_of b l) ≡ done x t' → Taken t body x t'
-settled-taken t t' body m x Accepted b l r a e =
+settled-taken t t' body m x (Ok u) b l r a e =
     let f : said m (read_of body).texts ≡ x = cc in
     let g : table_of b l ≡ t' = cc in
     subst (λ (y : Said). Taken t body y t') f
     (subst (Taken t body (said m (read_of body).texts)) g (record { read = r; texts = refl; applied = a }))
-settled-taken t t' body m x (Refused n) b l r a e = no-denial e
+settled-taken t t' body m x (Err n) b l r a e = no-denial e
 
-heard-taken : (t t' : Table) (body : List ℕ) (x : Said) (a : answers.Answer) → (read_of body).answer ≡ a → heard t (read_of body).texts a ≡ done x t'
+heard-taken : (t t' : Table) (body : List ℕ) (x : Said) (a : Result Message Refusal) → (read_of body).answer ≡ a → heard t (read_of body).texts a ≡ done x t'
     → Taken t body x t'
-heard-taken t t' body x (answer.Refused r) i e = no-denial e
-heard-taken t t' body x (answer.Is m) i e =
+heard-taken t t' body x (Err r) i e = no-denial e
+heard-taken t t' body x (Ok m) i e =
     let o = apply_of t.board m (read_of body).texts t.memory in
     settled-taken t t' body m x o.outcome.applied.verdict o.outcome.applied.board (table_by o).memory i refl e
 

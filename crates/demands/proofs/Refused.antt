@@ -31,7 +31,6 @@ use Rattle.reader.specs.Running.{most_packets, why_of, seen_run, seen_run_of, ru
 use Rattle.reader.specs.declared.Refusal.{Refusal}
 use Rattle.reader.specs.declared.Refusal.TheVariants as refusal
 use Rattle.reader.specs.declared.StepAnswer.TheVariants as answer
-use Rattle.reader.specs.declared.StartAnswer.TheVariants as started
 use Rattle.reader.specs.declared.Reader.{Reader}
 use Rattle.reader.specs.declared.Stepped.{Stepped}
 use Rattle.reader.specs.declared.Why.{Why}
@@ -50,6 +49,8 @@ use Rattle.demands.proofs.View.{refusal_in, ended_in, ended_of, refusal-of}
 use Rattle.demands.proofs.Kept.{AnswerStood, step-stood, stood-fit, ours_kept, stepping-is}
 use Rattle.demands.proofs.Callers.{any-cuts}
 use Rattle.demands.proofs.Equal.{equal-names, same-steps, same_runs, equal-starts}
+use Rattle.std.specs.Prelude.{Err}
+use Rattle.std.specs.Prelude.{Ok}
 
 -- ---- refusal 20
 
@@ -73,11 +74,11 @@ run-27 r t piece n x t' e l h = same_runs x (still_ran r (why.Refused refusal.Hi
 
 -- THEOREM: on starting it gives a fresh handle, and leaves all memory
 pub start-20 : (t : Memories) (s : Started) (t' : Memories) → is_lent t ≡ false → Starting t s t'
-    → SameStart s (record { reader = ready_of fresh_line fresh_board; answer = started.Refused refusal.Unfit }) t' t
+    → SameStart s (record { reader = ready_of fresh_line fresh_board; answer = Err refusal.Unfit }) t' t
 unfolding start_all start_of
-start-20 t s t' e h = equal-starts t s (record { reader = ready_of fresh_line fresh_board; answer = started.Refused refusal.Unfit }) t' t h fresh
+start-20 t s t' e h = equal-starts t s (record { reader = ready_of fresh_line fresh_board; answer = Err refusal.Unfit }) t' t h fresh
   where
-    fresh : Starting t (record { reader = ready_of fresh_line fresh_board; answer = started.Refused refusal.Unfit }) t
+    fresh : Starting t (record { reader = ready_of fresh_line fresh_board; answer = Err refusal.Unfit }) t
     fresh = rw e
 
 -- ---- a handle that may step
@@ -239,7 +240,7 @@ refusals-leave r t piece s t' x e n k h a d =
 
 -- THEOREM: of a reader that was started without refusal and was given bytes until it refused, nothing is held, and table, index and handle are as before the
 -- refused packet's first byte, which is the first that follows the accepted packets
-pub refused-run : (t : Memories) (b : Started) (t₁ : Memories) → Starting t b t₁ → b.answer ≡ started.Ready
+pub refused-run : (t : Memories) (b : Started) (t₁ : Memories) → Starting t b t₁ → b.answer ≡ Ok (tt {0})
     → {bs : List ℕ} {es : List (Event Said)} {r : Reader} {t₂ : Memories} {left : List ℕ} → Bytes bs → Steps b.reader t₁ bs es r t₂ left
     → (r.refusal ≡ 0 → ⊥)
     → (held_of r ≡ []) × (r.ended ≡ false) × RefusedAt (soup_bin_tcp deliver) begin bs es (session_of r.line r.board t₂) r.refusal

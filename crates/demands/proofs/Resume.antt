@@ -18,9 +18,6 @@ use Rattle.packet.proofs.Resume.{resume}
 use Rattle.table.specs.Memory.{table_size, Memories}
 use Rattle.table.specs.Index.{index_size}
 use Rattle.image.specs.Save.{size_for}
-use Rattle.image.specs.declared.Saved.{Saved}
-use Rattle.image.specs.declared.Saved.TheVariants.{Whole}
-use Rattle.image.specs.declared.Verdict.TheVariants.{Accepted}
 use Rattle.reader.specs.Refusals.{standing}
 use Rattle.reader.specs.Deliver.{Table, Said, deliver}
 use Rattle.reader.specs.View.{session_of, held_of, state_of, session_in}
@@ -37,6 +34,9 @@ use Rattle.demands.proofs.Kept.{Kept, kept-ours, unfinished-in}
 use Rattle.demands.proofs.Callers.{steps-called, steps-read, steps-ours}
 use Rattle.demands.proofs.Saved.{restored-unheld, ours-saved, comes_back}
 use Rattle.demands.proofs.Stopped.{Took, called-took, stopped-at}
+use Rattle.std.specs.Prelude.{Ok}
+use Rattle.std.specs.Prelude.{Result}
+use Rattle.image.specs.declared.Refusal.{Refusal}
 
 abbrev ran : List (Event Said) → State (Session Table) → Run (Session Table) (Event Said)
 ran es st = record { events = es; state = st }
@@ -133,16 +133,16 @@ module _ (r₀ : Reader) (t₀ : Memories) (o₀ : Ours r₀ t₀) (open₀ : (r
   is-logged-in = stopped-logged session₀ (held_of r₀) bs es session stopped logged
 
   -- it is saved to an output that is long enough, and restored from it to memories of the right lengths, whatever they hold
-  module _ (out : List ℕ) (room : size_for r.board.rows ≤ length out) (a : Saved) (z : List ℕ) (save : Saves r t.table out a z)
+  module _ (out : List ℕ) (room : size_for r.board.rows ≤ length out) (a : Result ℕ Refusal) (z : List ℕ) (save : Saves r t.table out a z)
       (m : Memories) (long : length m.table ≡ table_size) (wide : length m.index ≡ index_size) (q : Restored) (m' : Memories)
       (restore : Restores (part z 0 (size_for r.board.rows)) m q m') where
-    back : (q.verdict ≡ Accepted) × (state_of q.reader m' ≡ live (restored session) [])
+    back : (q.verdict ≡ Ok (tt {0})) × (state_of q.reader m' ≡ live (restored session) [])
     back =
         let b = comes_back r t ours out room a z save m long wide q m' restore in
         (b.0, b.1 ∙ rw is-logged-in.known)
 
     -- THEOREM: neither is refused
-    pub not-refused : (a ≡ Whole (size_for r.board.rows)) × (q.verdict ≡ Accepted)
+    pub not-refused : (a ≡ Ok (size_for r.board.rows)) × (q.verdict ≡ Ok (tt {0}))
     not-refused = (ours-saved r t ours out room a z save, back.0)
 
     -- THEOREM: the restored reader is again one that our own calls made, so that it may be stopped again

@@ -39,10 +39,6 @@ use Rattle.image.specs.Moves.{moved_of}
 use Rattle.image.specs.declared.Header.{Header}
 use Rattle.image.specs.declared.Refusal.{Refusal}
 use Rattle.image.specs.declared.Refusal.TheVariants.{Unfit}
-use Rattle.image.specs.declared.Saved.{Saved}
-use Rattle.image.specs.declared.Saved.TheVariants.{Whole, Unsaved}
-use Rattle.image.specs.declared.Verdict.{Verdict}
-use Rattle.image.specs.declared.Verdict.TheVariants as verdict
 use Rattle.image.specs.declared.Wanted.TheVariants.{Any, Older}
 use Rattle.image.specs.declared.Way.TheVariants.{Forward}
 use Rattle.image.proofs.Rounds.{Good, Stored, stored, taken, sound-saved, sound-cleared, saved-restored, restored-saved, restored-forward, restored-good}
@@ -64,32 +60,35 @@ use Rattle.packet.proofs.Bytes.{bytes-none, spaces-bytes}
 use Rattle.demands.proofs.Kept.{Kept, kept-ours, ours-within}
 use Rattle.demands.proofs.Names.{saved-same, verdicts-same}
 use Rattle.demands.proofs.Equal.{same-readers}
+use Rattle.std.specs.Prelude.{Err}
+use Rattle.std.specs.Prelude.{Ok}
+use Rattle.std.specs.Prelude.{Result}
 
 -- ---- DEMAND 1, of saving: a refusal writes nothing, a success exactly the stated length
 
-module _ (r : Reader) (t out : List ℕ) (a : Saved) (z : List ℕ) (h : Saves r t out a z) where
+module _ (r : Reader) (t out : List ℕ) (a : Result ℕ Refusal) (z : List ℕ) (h : Saves r t out a z) where
   saves-is : within_limits r t ≡ true → save_of (header_of r) t out ≡ saving a z
   unfolding save_all
   saves-is e = let o = save_of (header_of r) t out in sym (saved-same a o.answer z o.out (rw e at h))
 
   -- THEOREM: a handle that breaks a limit, or table memory of the wrong length, is refusal 20
-  pub save-20 : within_limits r t ≡ false → (a ≡ Unsaved Unfit) × (z ≡ out)
+  pub save-20 : within_limits r t ≡ false → (a ≡ Err Unfit) × (z ≡ out)
   unfolding save_all
   save-20 e =
-      let g : saving a z ≡ unsaved Unfit out = saved-same a (Unsaved Unfit) z out (rw e at h) in
+      let g : saving a z ≡ unsaved Unfit out = saved-same a (Err Unfit) z out (rw e at h) in
       (ap (λ (s : Saving). s.answer) g, ap (λ (s : Saving). s.out) g)
 
   -- THEOREM: a refusal, 20, 24 or 25, writes nothing
-  pub save-leaves : {x : Refusal} → a ≡ Unsaved x → z ≡ out
+  pub save-leaves : {x : Refusal} → a ≡ Err x → z ≡ out
   save-leaves {x} f = by (within_limits r t) refl
     where
       by : (y : Bool) → within_limits r t ≡ y → z ≡ out
-      by true e = unsaved-leaves (header_of r) t out z x (saves-is e ∙ ap (λ (b : Saved). saving b z) f)
+      by true e = unsaved-leaves (header_of r) t out z x (saves-is e ∙ ap (λ (b : Result ℕ Refusal). saving b z) f)
       by false e = (save-20 e).1
 
   -- THEOREM: a success writes the image from the start, so long as it says, and touches nothing after it
-  pub save-writes : {n : ℕ} → a ≡ Whole n → within_limits r t ≡ true → Stored (header_of r) t out n z
-  save-writes {n} f e = stored (header_of r) t out n z (saves-is e ∙ ap (λ (b : Saved). saving b z) f)
+  pub save-writes : {n : ℕ} → a ≡ Ok n → within_limits r t ≡ true → Stored (header_of r) t out n z
+  save-writes {n} f e = stored (header_of r) t out n z (saves-is e ∙ ap (λ (b : Result ℕ Refusal). saving b z) f)
 
 -- ---- DEMAND 1, of restoring: a refusal leaves all memory, and gives a fresh handle
 
@@ -110,15 +109,15 @@ module _ (bytes : List ℕ) (t : Memories) (q : Restored) (t₁ : Memories) (h :
   came-verdict e = verdicts-same q.verdict image.answer.verdict (ap (λ (c : Came). c.refusal) (judged e))
 
   -- THEOREM: 20 to 24 on restoring leave the table and its index
-  pub restore-leaves : {x : Refusal} → q.verdict ≡ verdict.Refused x → SameReader q.reader (ready_of fresh_line fresh_board) × (t₁ ≡ t)
+  pub restore-leaves : {x : Refusal} → q.verdict ≡ Err x → SameReader q.reader (ready_of fresh_line fresh_board) × (t₁ ≡ t)
   restore-leaves {x} f = by (is_index t.index) refl
     where
       by : (y : Bool) → is_index t.index ≡ y → SameReader q.reader (ready_of fresh_line fresh_board) × (t₁ ≡ t)
       by true e =
           let o = restore_of bytes t.table in
-          let v : o.answer.verdict ≡ verdict.Refused x = sym (came-verdict e) ∙ f in
-          let w : o ≡ restoring (images.restored (verdict.Refused x) o.answer.header) o.memory
-          = ap (λ (y : Verdict). restoring (images.restored y o.answer.header) o.memory) v in
+          let v : o.answer.verdict ≡ Err x = sym (came-verdict e) ∙ f in
+          let w : o ≡ restoring (images.restored (Err x) o.answer.header) o.memory
+          = ap (λ (y : Result (Unit {0}) Refusal). restoring (images.restored y o.answer.header) o.memory) v in
           let g = refused-leaves bytes t.table o.memory o.answer.header x w in
           same-readers q.reader (ready_of fresh_line fresh_board) t₁ t (ap (λ (c : Came). c.state) (judged e) ∙ rw (v, g.0, g.1))
           (ap (λ (c : Came). c.used) (judged e))
@@ -192,7 +191,7 @@ came-sound h mem g b l =
       whose = came-whose h mem g h.known refl (both_right (board_keeps h.board) (h.known || is_fresh h) g.header);
     }
 
-module _ (bytes : List ℕ) (t : Memories) (q : Restored) (t₁ : Memories) (h : Restores bytes t q t₁) (v : q.verdict ≡ verdict.Accepted) where
+module _ (bytes : List ℕ) (t : Memories) (q : Restored) (t₁ : Memories) (h : Restores bytes t q t₁) (v : q.verdict ≡ Ok (tt {0})) where
   abbrev header : Header
   header = (restore_of bytes t.table).answer.header
 
@@ -209,9 +208,9 @@ module _ (bytes : List ℕ) (t : Memories) (q : Restored) (t₁ : Memories) (h :
           let z : ◌≡◌ {A = ℕ} 0 20 = ap restore_number (sym v) ∙ ap (λ (c : Came). c.refusal) (unjudged bytes t q t₁ h e) in
           absurd (omega arith)
 
-  accepted-is : restore_of bytes t.table ≡ restoring (images.restored verdict.Accepted header) restored_table
+  accepted-is : restore_of bytes t.table ≡ restoring (images.restored (Ok (tt {0})) header) restored_table
   accepted-is =
-      ap (λ (y : Verdict). restoring (images.restored y header) restored_table) (sym (came-verdict bytes t q t₁ h lent) ∙ v)
+      ap (λ (y : Result (Unit {0}) Refusal). restoring (images.restored y header) restored_table) (sym (came-verdict bytes t q t₁ h lent) ∙ v)
 
   came-state : state_of q.reader t₁ ≡ live (session_of (line_of header) header.board (indexed header.board.rows restored_table)) []
   came-state =
@@ -251,7 +250,7 @@ next-in-range r t o = rw (le-leb 1 r.line.next o.sound.range.some, le-leb r.line
 
 -- with a known session
 known-saves : (r : Reader) (t : Memories) (o : Ours r t) → r.line.known ≡ true → (out : List ℕ) → size_for r.board.rows ≤ length out
-    → (a : Saved) (z : List ℕ) → Saves r t.table out a z → a ≡ Whole (size_for r.board.rows)
+    → (a : Result ℕ Refusal) (z : List ℕ) → Saves r t.table out a z → a ≡ Ok (size_for r.board.rows)
 known-saves r t o known out room a z h =
     ap (λ (s : Saving). s.answer)
     (sym (saves-is r t.table out a z h (ours-within r t o))
@@ -259,7 +258,7 @@ known-saves r t o known out room a z h =
 
 -- a reader to which nothing has happened is saved as one block
 fresh-saves : (r : Reader) (t : Memories) → Ours r t → session_of r.line r.board t ≡ begin → (out : List ℕ) → size_for r.board.rows ≤ length out
-    → (a : Saved) (z : List ℕ) → Saves r t.table out a z → a ≡ Whole (size_for r.board.rows)
+    → (a : Result ℕ Refusal) (z : List ℕ) → Saves r t.table out a z → a ≡ Ok (size_for r.board.rows)
 unfolding size_for blocks_for pages_for
 fresh-saves r t o e out room a z h =
     let line : r.line ≡ fresh_line = ap (λ (s : Session Table). s.line) e in
@@ -267,17 +266,17 @@ fresh-saves r t o e out room a z h =
     let head : header_of r ≡ fresh_header = rw (line, board) in
     let rows : r.board.rows ≡ 0 = ap (λ (b : Board). b.rows) board in
     let fits : size_for 0 ≤ length out = subst (λ (n : ℕ). size_for n ≤ length out) rows room in
-    let saved : save_of (header_of r) t.table out ≡ saving (Whole (size_for 0)) (overlay out 0 (image_of fresh_header t.table))
+    let saved : save_of (header_of r) t.table out ≡ saving (Ok (size_for 0)) (overlay out 0 (image_of fresh_header t.table))
     = ap (λ (x : Header). save_of x t.table out) head ∙ fresh-saved t.table out o.sound.about.rows.sized fits in
     ap (λ (s : Saving). s.answer) (sym (saves-is r t.table out a z h (ours-within r t o)) ∙ saved)
-    ∙ ap (λ (n : ℕ). Whole (size_for n)) (sym rows)
+    ∙ ap (λ (n : ℕ). Ok (size_for n)) (sym rows)
 
 -- what the image gives is what comes back
 pub gives : (bytes : List ℕ) (t : Memories) (q : Restored) (t₁ : Memories) → Restores bytes t q t₁ → length t.index ≡ index_size → (h : Header) (mem : List ℕ)
-    → restore_of bytes t.table ≡ restoring (images.restored verdict.Accepted h) mem
-    → (q.verdict ≡ verdict.Accepted) × (state_of q.reader t₁ ≡ live (session_of (line_of h) h.board (indexed h.board.rows mem)) [])
+    → restore_of bytes t.table ≡ restoring (images.restored (Ok (tt {0})) h) mem
+    → (q.verdict ≡ Ok (tt {0})) × (state_of q.reader t₁ ≡ live (session_of (line_of h) h.board (indexed h.board.rows mem)) [])
 gives bytes t q t₁ r i h mem e =
-    let v : q.verdict ≡ verdict.Accepted
+    let v : q.verdict ≡ Ok (tt {0})
     = came-verdict bytes t q t₁ r (eq-eqb (length t.index) index_size i) ∙ ap (λ (x : Restoring). x.answer.verdict) e in (
       v,
       came-state bytes t q t₁ r v
@@ -285,11 +284,11 @@ gives bytes t q t₁ r i h mem e =
     )
 
 -- THEOREM: saving what our own calls make is not refused but where the output is too short
-pub ours-saved : (r : Reader) (t : Memories) → Ours r t → (out : List ℕ) → size_for r.board.rows ≤ length out → (a : Saved) (z : List ℕ)
-    → Saves r t.table out a z → a ≡ Whole (size_for r.board.rows)
+pub ours-saved : (r : Reader) (t : Memories) → Ours r t → (out : List ℕ) → size_for r.board.rows ≤ length out → (a : Result ℕ Refusal) (z : List ℕ)
+    → Saves r t.table out a z → a ≡ Ok (size_for r.board.rows)
 ours-saved r t o out room a z h = by o.sound.whose
   where
-    by : (r.line.known ≡ true) ⊎ (session_of r.line r.board t ≡ begin) → a ≡ Whole (size_for r.board.rows)
+    by : (r.line.known ≡ true) ⊎ (session_of r.line r.board t ≡ begin) → a ≡ Ok (size_for r.board.rows)
     by (inl k) = known-saves r t o k out room a z h
     by (inr e) = fresh-saves r t o e out room a z h
 
@@ -310,20 +309,20 @@ ours-indexed r t o =
     (build-sorted r.board.rows t.table x.rows) x.index)
 
 module _ (r : Reader) (t : Memories) (o : Ours r t) (out : List ℕ) (room : size_for r.board.rows ≤ length out)
-    (a : Saved) (z : List ℕ) (h : Saves r t.table out a z) where
-  pub was-saved : save_of (header_of r) t.table out ≡ saving (Whole (size_for r.board.rows)) z
-  was-saved = saves-is r t.table out a z h (ours-within r t o) ∙ ap (λ (b : Saved). saving b z) (ours-saved r t o out room a z h)
+    (a : Result ℕ Refusal) (z : List ℕ) (h : Saves r t.table out a z) where
+  pub was-saved : save_of (header_of r) t.table out ≡ saving (Ok (size_for r.board.rows)) z
+  was-saved = saves-is r t.table out a z h (ours-within r t o) ∙ ap (λ (b : Result ℕ Refusal). saving b z) (ours-saved r t o out room a z h)
 
   -- THEOREM: SAVE, THEN RESTORE. From any handle of ours it is not refused; it gives the same table and the same index, and a reader that waits for a
   -- login to the session, or a fresh one where no session is known.
   pub comes_back : (t₀ : Memories) → length t₀.table ≡ table_size → length t₀.index ≡ index_size → (q : Restored) (t₁ : Memories)
       → Restores (part z 0 (size_for r.board.rows)) t₀ q t₁
-      → (q.verdict ≡ verdict.Accepted) × (state_of q.reader t₁ ≡ live (session_of (line_of (header_of r)) r.board t) [])
+      → (q.verdict ≡ Ok (tt {0})) × (state_of q.reader t₁ ≡ live (session_of (line_of (header_of r)) r.board t) [])
   comes_back t₀ l i q t₁ g =
       let n = size_for r.board.rows in
-      let back : restore_of (part z 0 n) t₀.table ≡ restoring (images.restored verdict.Accepted (header_of r)) t.table
+      let back : restore_of (part z 0 n) t₀.table ≡ restoring (images.restored (Ok (tt {0})) (header_of r)) t.table
       = saved-restored (header_of r) t.table out z n o.sound.ten was-saved t₀.table l
-      ∙ ap (restoring (images.restored verdict.Accepted (header_of r))) (ours-cleared r t o) in
+      ∙ ap (restoring (images.restored (Ok (tt {0})) (header_of r))) (ours-cleared r t o) in
       let come = gives (part z 0 n) t₀ q t₁ g i (header_of r) t.table back in
       (come.0, come.1 ∙ ap (λ (x : Memories). live (session_of (line_of (header_of r)) r.board x) []) (ours-indexed r t o))
 
@@ -342,7 +341,7 @@ line-back h l false k e =
     let next : 1 ≡ h.next = sym (eqb-true h.next 1 (both_left (eqb h.next 1) _ b)) in
     rw k (λ i. record { session = session i; known = false; next = next i; board = h.board })
 
-module _ (bytes : List ℕ) (t : Memories) (q : Restored) (t₁ : Memories) (h : Restores bytes t q t₁) (v : q.verdict ≡ verdict.Accepted) (b : Bytes bytes) where
+module _ (bytes : List ℕ) (t : Memories) (q : Restored) (t₁ : Memories) (h : Restores bytes t q t₁) (v : q.verdict ≡ Ok (tt {0})) (b : Bytes bytes) where
   abbrev saved : Header
   saved = (restore_of bytes t.table).answer.header
 
@@ -360,28 +359,28 @@ module _ (bytes : List ℕ) (t : Memories) (q : Restored) (t₁ : Memories) (h :
       ∙ line-back saved (header-ten bytes t q t₁ h v) saved.known refl (both_right (board_keeps saved.board) (saved.known || is_fresh saved) g.header)
 
   -- saving it is saving what was restored
-  saved-as : (out image : List ℕ) → save_of saved saved_table out ≡ saving (Whole (length bytes)) (overlay out 0 image) → (a : Saved) (z : List ℕ)
-      → Saves q.reader t₁.table out a z → (a ≡ Whole (length bytes)) × (z ≡ overlay out 0 image)
+  saved-as : (out image : List ℕ) → save_of saved saved_table out ≡ saving (Ok (length bytes)) (overlay out 0 image) → (a : Result ℕ Refusal) (z : List ℕ)
+      → Saves q.reader t₁.table out a z → (a ≡ Ok (length bytes)) × (z ≡ overlay out 0 image)
   saved-as out image s a z g =
       let o = restore-ours bytes t q t₁ h v b in
-      let e : saving a z ≡ saving (Whole (length bytes)) (overlay out 0 image)
+      let e : saving a z ≡ saving (Ok (length bytes)) (overlay out 0 image)
       = sym (saves-is q.reader t₁.table out a z g (ours-within q.reader t₁ o))
       ∙ ap (λ (x : Header). save_of x t₁.table out) header-back
       ∙ ap (λ (x : Session Table). save_of saved x.about.memory.table out) came-back ∙ s in
       (ap (λ (x : Saving). x.answer) e, ap (λ (x : Saving). x.out) e)
 
   -- THEOREM: RESTORE, THEN SAVE. The bytes are those of the image, for every image of version 3 that was not refused, of a known session or of none.
-  pub goes_back : version_of bytes ≡ newest → (out : List ℕ) → length bytes ≤ length out → (a : Saved) (z : List ℕ) → Saves q.reader t₁.table out a z
-      → (a ≡ Whole (length bytes)) × (z ≡ overlay out 0 bytes)
+  pub goes_back : version_of bytes ≡ newest → (out : List ℕ) → length bytes ≤ length out → (a : Result ℕ Refusal) (z : List ℕ) → Saves q.reader t₁.table out a z
+      → (a ≡ Ok (length bytes)) × (z ≡ overlay out 0 bytes)
   goes_back n out room = saved-as out bytes (restored-saved bytes t.table out saved_table saved b n (accepted-is bytes t q t₁ h v) room)
 
   -- THEOREM: and those of its move forward, for one of another version
-  pub goes-forward : eqb (version_of bytes) newest ≡ false → (out : List ℕ) → length bytes ≤ length out → (a : Saved) (z : List ℕ) → Saves q.reader t₁.table out a z
-      → (a ≡ Whole (length bytes)) × (z ≡ overlay out 0 (moved_of Forward bytes))
+  pub goes-forward : eqb (version_of bytes) newest ≡ false → (out : List ℕ) → length bytes ≤ length out → (a : Result ℕ Refusal) (z : List ℕ) → Saves q.reader t₁.table out a z
+      → (a ≡ Ok (length bytes)) × (z ≡ overlay out 0 (moved_of Forward bytes))
   goes-forward n out room = saved-as out (moved_of Forward bytes) (restored-forward bytes t.table out saved_table saved n (accepted-is bytes t q t₁ h v) room)
 
 -- THEOREM: restoring an older image is restoring its move forward
-pub restores-forward : (bytes : List ℕ) → verdict_in Older bytes ≡ verdict.Accepted → (t : Memories) (q : Restored) (t₁ : Memories) → Restores bytes t q t₁
+pub restores-forward : (bytes : List ℕ) → verdict_in Older bytes ≡ Ok (tt {0}) → (t : Memories) (q : Restored) (t₁ : Memories) → Restores bytes t q t₁
     → Restores (moved_of Forward bytes) t q t₁
 unfolding restore_all
 restores-forward bytes e t q t₁ h = rw (restore-forward bytes t.table e) h

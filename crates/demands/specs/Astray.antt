@@ -3,7 +3,6 @@
 use Rattle.std.specs.Prelude.{ℕ, ◌≡◌, List}
 use Rattle.message.specs.Message.{read_of}
 use Rattle.message.specs.declared.Message as code
-use Rattle.message.specs.declared.Answer.TheVariants.{Is}
 use Rattle.packet.specs.Frame.{packet, frame}
 use Rattle.packet.specs.Line.{packet_of}
 use Rattle.packet.specs.Session.{Session}
@@ -11,11 +10,12 @@ use Rattle.packet.specs.declared.Packet.TheVariants.{Message}
 use Rattle.table.specs.Board.{look}
 use Rattle.table.specs.declared.index.Sought.TheVariants.{Astray}
 use Rattle.reader.specs.Deliver.{Table}
+use Rattle.std.specs.Prelude.{Ok}
 
 -- the body is that of a message, and a place that the search for its row visits names no row in use
 pub record Leads (t : Table) (body : List ℕ) : Type 0 where
   pub message : code.Message
-  pub read : (read_of body).answer ≡ Is message
+  pub read : (read_of body).answer ≡ Ok message
   pub astray : look t.board message t.memory ≡ Astray
 
 -- the bytes begin with a whole packet that is a message for the next number, and the index leads it astray

@@ -6,8 +6,6 @@ use Rattle.message.specs.Layout.{amount}
 use Rattle.message.specs.Message as messages
 use Rattle.message.specs.Message.{read_of}
 use Rattle.message.specs.declared.Message.TheVariants as message
-use Rattle.message.specs.declared.Answer as answers
-use Rattle.message.specs.declared.Answer.TheVariants as answer
 use Rattle.packet.specs.Stream as stream
 use Rattle.packet.specs.Frame.{held_size}
 use Rattle.packet.specs.Stream.{State, live, Event, More, Refused}
@@ -24,6 +22,11 @@ use Rattle.reader.specs.View.{ready_of, memory_in}
 use Rattle.reader.specs.Calls.{step_all}
 use Rattle.reader.specs.Saving.{Written, save_all}
 use Rattle.reader.specs.declared.Reader.{Reader}
+use Rattle.std.specs.Prelude.{Err}
+use Rattle.std.specs.Prelude.{Ok}
+use Rattle.std.specs.Prelude.{Result}
+use Rattle.message.specs.declared.Refusal.{Refusal}
+use Rattle.message.specs.declared.Message.{Message}
 
 -- ---- what is asked
 
@@ -77,26 +80,26 @@ calls r memory (piece ∷ pieces) =
     let s = (step_all r memory piece).step in
     takes s.taken s.answer ∷ calls (reader_in s.state) (memory_in s.state) pieces
 
-abbrev pub time_in : answers.Answer → ℕ
-time_in (answer.Is m) = time_of m
-time_in (answer.Refused r) = 0
+abbrev pub time_in : Result Message Refusal → ℕ
+time_in (Ok m) = time_of m
+time_in (Err r) = 0
 
 -- the price of a side that was given in pennies, as the number that its row keeps, 0 for none
-abbrev pub price_in : answers.Answer → ℕ
-price_in (answer.Is (message.SystemEvent m)) = 0
-price_in (answer.Is (message.Directory m)) = 0
-price_in (answer.Is (message.TradingAction m)) = 0
-price_in (answer.Is (message.ShortQuote m)) = 0
-price_in (answer.Is (message.LongQuote m)) = 0
-price_in (answer.Is (message.ShortSide m)) = amount (widened m.numbers).price
-price_in (answer.Is (message.LongSide m)) = 0
-price_in (answer.Is (message.EndOfReplay m)) = 0
-price_in (answer.Refused r) = 0
+abbrev pub price_in : Result Message Refusal → ℕ
+price_in (Ok (message.SystemEvent m)) = 0
+price_in (Ok (message.Directory m)) = 0
+price_in (Ok (message.TradingAction m)) = 0
+price_in (Ok (message.ShortQuote m)) = 0
+price_in (Ok (message.LongQuote m)) = 0
+price_in (Ok (message.ShortSide m)) = amount (widened m.numbers).price
+price_in (Ok (message.LongSide m)) = 0
+price_in (Ok (message.EndOfReplay m)) = 0
+price_in (Err r) = 0
 
 -- 0 where it is accepted, or the number of its refusal
-abbrev pub refusal_in : answers.Answer → ℕ
-refusal_in (answer.Is m) = 0
-refusal_in (answer.Refused r) = messages.refusal_number r
+abbrev pub refusal_in : Result Message Refusal → ℕ
+refusal_in (Ok m) = 0
+refusal_in (Err r) = messages.refusal_number r
 
 -- how many blocks were saved, and the check of the first; or the number of the refusal
 abbrev pub saved_as : Written → Answer

@@ -18,9 +18,6 @@ use Rattle.table.specs.Index.{index_size, is_index}
 use Rattle.table.specs.Board.{fresh_board}
 use Rattle.image.specs.Save.{Saving, size_for, save_of}
 use Rattle.image.specs.Restore.{restore_of}
-use Rattle.image.specs.declared.Saved.{Saved}
-use Rattle.image.specs.declared.Saved.TheVariants.{Whole, Unsaved}
-use Rattle.image.specs.declared.Verdict.TheVariants.{Accepted}
 use Rattle.handle.specs.Handle.{handle_size, head_of}
 use Rattle.record.specs.Record.{Answered, answered}
 use Rattle.reader.specs.Deliver.{Table, Said, deliver}
@@ -40,6 +37,10 @@ use Rattle.demands.proofs.Resume.{stopped-logged, given-bytes, resumed, restored
 use Rattle.hosts.specs.Runs.{HostCalls, HostDone}
 use Rattle.hosts.proofs.Laid.{HostOurs, own-used}
 use Rattle.hosts.proofs.Runs.{Fresh, unheld-fresh, own-unfinished, calls-called, calls-ours, calls-read}
+use Rattle.std.specs.Prelude.{Ok}
+use Rattle.std.specs.Prelude.{Err}
+use Rattle.std.specs.Prelude.{Result}
+use Rattle.image.specs.declared.Refusal.{Refusal}
 
 -- THEOREM: handles that are the same reader have the same head, byte for byte what the head's fields say
 pub same-heads : (h : List ℕ) (t : Memories) (h' : List ℕ) (t' : Memories) → HostOurs h t → HostOurs h' t'
@@ -86,7 +87,7 @@ module _ (hm : List ℕ) (tm : Memories) (image : List ℕ) (a : ℕ) (handle : 
       by : (y : Bool) → eqb (length hm) handle_size ≡ y → (z : Bool) → is_index tm.index ≡ z → HostOurs handle memory
       by true l true i =
           let n : restore_number came.verdict ≡ 0 = sym (ap (λ (q : Left). q.number) (restored-is l i)) ∙ ready in
-          let o = restore-ours image tm came session₁.about.memory (comes l i) (verdicts-same came.verdict Accepted n) b in
+          let o = restore-ours image tm came session₁.about.memory (comes l i) (verdicts-same came.verdict (Ok (tt {0})) n) b in
           let k = ours_kept came.reader session₁.about.memory o in
           (unheld-fresh session₁ k a (restore_number came.verdict) handle memory (restored-is l i)).ours
       by true l false i =
@@ -99,9 +100,9 @@ module _ (hm : List ℕ) (tm : Memories) (image : List ℕ) (a : ℕ) (handle : 
 -- ---- stopped, saved and restored
 
 -- the output is what was left
-out_of : (s : Saved) (z : List ℕ) → (written_of s z).out ≡ z
-out_of (Whole n) z = refl
-out_of (Unsaved r) z = refl
+out_of : (s : Result ℕ Refusal) (z : List ℕ) → (written_of s z).out ≡ z
+out_of (Ok n) z = refl
+out_of (Err r) z = refl
 
 -- A handle of ours, by its own bytes neither ended nor refused, is given bytes by steps and runs. It is logged in, or a login is among them, and it is
 -- stopped before any end.
@@ -144,7 +145,7 @@ module _ (h₀ : List ℕ) (t₀ : Memories) (o₀ : HostOurs h₀ t₀) (open�
     abbrev wrote : Saving
     wrote = save_of (header_of (reader_in handle)) memory.table out
 
-    abbrev said : Saved
+    abbrev said : Result ℕ Refusal
     said = wrote.answer
 
     save-goes : save_all (reader_in handle) memory.table out ≡ written_by wrote
@@ -164,7 +165,7 @@ module _ (h₀ : List ℕ) (t₀ : Memories) (o₀ : HostOurs h₀ t₀) (open�
     saved =
         let whole = ours-saved (reader_in handle) memory own.ours out room said z saves in
         let number : a₁ ≡ 0 + size * 256
-        = ap (λ (q : Answered). q.number) save-is ∙ ap saved_number save-goes ∙ ap (λ (s : Saved). saved_number (written_of s wrote.out)) whole in
+        = ap (λ (q : Answered). q.number) save-is ∙ ap saved_number save-goes ∙ ap (λ (s : Result ℕ Refusal). saved_number (written_of s wrote.out)) whole in
         omega (arith, number)
 
     count : a₁ / 256 ≡ size
@@ -186,7 +187,7 @@ module _ (h₀ : List ℕ) (t₀ : Memories) (o₀ : HostOurs h₀ t₀) (open�
       restore-is : left a₂ h₂ t₂ ≡ unheld (restore_number (came_as image tm₂).verdict) (live (session_from image tm₂) []) 0
       restore-is = restored-is hm₂ tm₂ image a₂ h₂ t₂ restores (eq-eqb (length hm₂) handle_size handle-long) index_is
 
-      back : ((came_as image tm₂).verdict ≡ Accepted) × (live (session_from image tm₂) [] ≡ live (restored session) [])
+      back : ((came_as image tm₂).verdict ≡ Ok (tt {0})) × (live (session_from image tm₂) [] ≡ live (restored session) [])
       back =
           let b
           = comes_back (reader_in handle) memory own.ours out room said z saves tm₂ table-long index-long (came_as image tm₂)

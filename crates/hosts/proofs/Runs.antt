@@ -30,7 +30,6 @@ use Rattle.reader.specs.Deliver.{Table, table_by, Said, deliver}
 use Rattle.reader.specs.View.{session_of, held_of, state_of, Seen, seen, held_in, ready_of}
 use Rattle.reader.specs.Calls.{fresh_on, verdict_number, start_all, Starting, step_all}
 use Rattle.reader.specs.declared.Started.{Started}
-use Rattle.reader.specs.declared.StartAnswer.TheVariants.{Ready}
 use Rattle.reader.specs.Handles.{reader_in, head_in, Left, left, event_number, told_number, told_memory, taken_in, kind_in, answer_for, moved_by, Stepped, host_stepped, step_host, HostSteps}
 use Rattle.reader.specs.Running.{run_taken_in}
 use Rattle.reader.proofs.Fits.{numbered-low, AnswerFits}
@@ -46,6 +45,7 @@ use Rattle.hosts.specs.Events.{events_in}
 use Rattle.hosts.specs.Runs.{HostCalls, stop, step, run, HostDone}
 use Rattle.hosts.proofs.Laid.{HostOurs, host-own, unheld-state, unheld-ours}
 use Rattle.hosts.proofs.Ceiling.{run-went, ran-called}
+use Rattle.std.specs.Prelude.{Ok}
 
 -- ---- one step
 
@@ -318,7 +318,7 @@ module _ (hm : List ℕ) (tm : Memories) (a : ℕ) (handle : List ℕ) (memory :
   started =
       let o = start_of tm in
       let after : Memories = (table_by o).memory in
-      let r : Started = record { reader = ready_of fresh_line o.outcome.applied.board; answer = Ready } in
+      let r : Started = record { reader = ready_of fresh_line o.outcome.applied.board; answer = (Ok (tt {0})) } in
       let n : 0 ≡ verdict_number o.outcome.applied.verdict = sym ready ∙ ap (λ (q : Left). q.number) start-long in
       let h : Starting tm r after = λ i. record { state = live (fresh_on o) []; used = 0; refusal = n i } in
       let w = (callers.started tm r after h refl).0 in

@@ -41,9 +41,9 @@ use Rattle.image.proofs.Zeros.{cleared-own}
 
 -- ---- what acceptance says, test by test
 
-pub accepted-if : (b : Bool) (v : Result (Unit {0}) Refusal) (r : Refusal) → cond b v (Err r) ≡ (Ok (tt {0})) → (b ≡ true) × (v ≡ (Ok (tt {0})))
+pub accepted-if : (b : Bool) (v : Result (Unit {0}) Refusal) (r : Refusal) → cond b v (Err r) ≡ Ok (tt {0}) → (b ≡ true) × (v ≡ Ok (tt {0}))
 accepted-if true v r e = (refl, e)
-accepted-if false v r e = let z : Err r ≡ (Ok (tt {0})) = e in (cc, cc)
+accepted-if false v r e = let z : Err r ≡ Ok (tt {0}) = e in (cc, cc)
 
 pub record Kept (image : List ℕ) : Type 0 where
   pub size : Long image
@@ -51,7 +51,7 @@ pub record Kept (image : List ℕ) : Type 0 where
   pub heads : heads_keep image (count_of image) (header_of image) ≡ true
   pub contents : contents_keep image (count_of image) (header_of image) ≡ true
 
-pub kept : (wanted : Wanted) (image : List ℕ) → verdict_in wanted image ≡ (Ok (tt {0})) → Kept image × (welcome wanted (version_of image) ≡ true)
+pub kept : (wanted : Wanted) (image : List ℕ) → verdict_in wanted image ≡ Ok (tt {0}) → Kept image × (welcome wanted (version_of image) ≡ true)
 unfolding verdict_in
 kept wanted image e =
     let a = accepted-if (length_keeps image) _ BadLength e in

@@ -258,7 +258,7 @@ module _ (v : ℕ) (small : v < 256 ^ 2) (h : Header) (mem : List ℕ) (fit : He
         (zeros-pass (pages_for h.board.rows * body_size - row_at h.board.rows))
 
     -- THE IMAGE OF A TABLE IS ACCEPTED
-    pub image-accepted : (wanted : Wanted) → welcome wanted v ≡ true → verdict_in wanted (image_in v h mem) ≡ (Ok (tt {0}))
+    pub image-accepted : (wanted : Wanted) → welcome wanted v ≡ true → verdict_in wanted (image_in v h mem) ≡ Ok (tt {0})
     unfolding verdict_in contents_keep
     image-accepted wanted w = rw (length-good, image-count, checks-good, header-back, heads-good, version-back, w, facts-back, good, slots-good)
 

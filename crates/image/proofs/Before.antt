@@ -136,7 +136,7 @@ module _ (p : Program) (o : Former p) where
     heads : heads_kept p image (count_of image) (header_of image) ≡ true
     contents : contents_kept p image (count_of image) (header_of image) ≡ true
 
-  kept-before : (image : List ℕ) → verdict_before p image ≡ (Ok (tt {0})) → KeptBefore image
+  kept-before : (image : List ℕ) → verdict_before p image ≡ Ok (tt {0}) → KeptBefore image
   unfolding verdict_before length_kept
   kept-before image e =
       let a = accepted-if (length_kept p image) _ BadLength e in
@@ -150,7 +150,7 @@ module _ (p : Program) (o : Former p) where
   unfolding contents_kept slots_kept
   count-in image e = eqb-true _ _ (both_left _ _ (both_right (header_keeps (header_of image)) _ (both_right (facts_keep image) _ e)))
 
-  module _ (image : List ℕ) (e : verdict_before p image ≡ (Ok (tt {0}))) where
+  module _ (image : List ℕ) (e : verdict_before p image ≡ Ok (tt {0})) where
     -- it has no more rows than the program knew
     pub rows_before : (header_of image).board.rows ≤ p.most
     rows_before = let k = kept-before image e in few-before (header_of image).board.rows (count_of image) (count-in image k.contents) k.few_blocks
@@ -173,7 +173,7 @@ module _ (p : Program) (o : Former p) where
     fits-before = rw (not-newest, eq-eqb (version_of image) (old_version (header_of image).board.rows) (version-before ∙ o.same (header_of image).board.rows rows_before))
 
     -- WHAT WAS ACCEPTED IS ACCEPTED: by restoring, and by a move forward
-    pub forward-takes : verdict_in Older image ≡ (Ok (tt {0}))
+    pub forward-takes : verdict_in Older image ≡ Ok (tt {0})
     unfolding verdict_in length_keeps heads_keep heads_kept
     forward-takes =
         let k = kept-before image e in
@@ -190,11 +190,11 @@ module _ (p : Program) (o : Former p) where
           k.contents,
         )
 
-    pub accepted-before : verdict_of image ≡ (Ok (tt {0}))
+    pub accepted-before : verdict_of image ≡ Ok (tt {0})
     accepted-before = any-accepted Older image forward-takes
 
   -- AND A READER OF BEFORE ACCEPTS WHAT A MOVE FORWARD TAKES and has no more rows than it knew
-  pub accepted-by-it : (image : List ℕ) → verdict_in Older image ≡ (Ok (tt {0})) → (header_of image).board.rows ≤ p.most → verdict_before p image ≡ (Ok (tt {0}))
+  pub accepted-by-it : (image : List ℕ) → verdict_in Older image ≡ Ok (tt {0}) → (header_of image).board.rows ≤ p.most → verdict_before p image ≡ Ok (tt {0})
   unfolding verdict_before length_kept heads_kept heads_keep
   accepted-by-it image e r =
       let a = kept Older image e in
@@ -215,7 +215,7 @@ module _ (p : Program) (o : Former p) where
         k.contents,
       )
 
-  module _ (image : List ℕ) (e : verdict_of image ≡ (Ok (tt {0}))) where
+  module _ (image : List ℕ) (e : verdict_of image ≡ Ok (tt {0})) where
     -- IT ANSWERS 21 TO WHATEVER HAS MORE ROWS
     pub refused-by-it : p.most < (header_of image).board.rows → verdict_before p image ≡ Err BadLength
     refused-by-it r = too_long image (more-blocks (header_of image).board.rows (count_of image) (count-is image (kept Any image e).0) r)
@@ -232,7 +232,7 @@ module _ (p : Program) (o : Former p) where
         answers-23 image l k.checks v
 
     -- AND IT TAKES WHAT A MOVE BACK MAKES OF IT
-    pub back-taken : version_of image ≡ newest → (header_of image).board.rows ≤ p.most → verdict_before p (moved_of Back image) ≡ (Ok (tt {0}))
+    pub back-taken : version_of image ≡ newest → (header_of image).board.rows ≤ p.most → verdict_before p (moved_of Back image) ≡ Ok (tt {0})
     back-taken v r =
         let k = (kept Any image e).0 in
         accepted-by-it (moved_of Back image) (moved-accepted image k Back Older (old-welcome (header_of image).board.rows)) (rw (moved-header image k Back) r)
@@ -246,20 +246,20 @@ module _ (p : Program) (o : Former p) where
       ∙ sym (append_assoc xs (replicate (table_size_of p - n) 0) (replicate (table_size - table_size_of p) 0))
 
   -- the rows as they stood, in more memory
-  pub rows-stood : (image : List ℕ) → verdict_before p image ≡ (Ok (tt {0})) → rows_of image ≡ widened p (memory_before p image)
+  pub rows-stood : (image : List ℕ) → verdict_before p image ≡ Ok (tt {0}) → rows_of image ≡ widened p (memory_before p image)
   unfolding rows_of memory_before
   rows-stood image e =
       wider ((count_of image - 1) * body_size) (pages image first_page block_size (count_of image - 1)) (omega (arith, (kept-before image e).few_blocks, o.whole))
 
   taken-if : (v : Result (Unit {0}) Refusal) (image old mem : List ℕ) (h : Header) → restored_by_before p v image old ≡ restoring (restored (Ok (tt {0})) h) mem
-      → (v ≡ (Ok (tt {0}))) × (h ≡ header_of image) × (mem ≡ memory_before p image)
+      → (v ≡ Ok (tt {0})) × (h ≡ header_of image) × (mem ≡ memory_before p image)
   unfolding restored_by_before
   taken-if (Ok u) image old mem h e = (refl, sym (ap (λ (w : Restoring). w.answer.header) e), sym (ap (λ (w : Restoring). w.memory) e))
   taken-if (Err r) image old mem h e =
-      let y : Err r ≡ (Ok (tt {0})) = ap (λ (w : Restoring). w.answer.verdict) e in let x : ◌≡◌ {A = ℕ} 0 1 = cc in absurd (omega arith)
+      let y : Err r ≡ Ok (tt {0}) = ap (λ (w : Restoring). w.answer.verdict) e in let x : ◌≡◌ {A = ℕ} 0 1 = cc in absurd (omega arith)
 
   module _ (image old mem now : List ℕ) (h : Header) (e : restore_before p image old ≡ restoring (restored (Ok (tt {0})) h) mem) (lent : length now ≡ table_size) where
-    was-taken : (verdict_before p image ≡ (Ok (tt {0}))) × (h ≡ header_of image) × (mem ≡ memory_before p image)
+    was-taken : (verdict_before p image ≡ Ok (tt {0})) × (h ≡ header_of image) × (mem ≡ memory_before p image)
     unfolding restore_before
     was-taken =
         let t = taken-if (cond (is_table_of p old) (verdict_before p image) (Err Unfit)) image old mem h e in
@@ -361,7 +361,7 @@ module _ (p : Program) (o : Former p) where
         let l : length (image_in (p.version rows) h (widened p mem)) ≡ n = image-length (p.version rows) version_low h (widened p mem) header-fine wide few-rows ∙ sym made.size in
         rw (made.bytes, ← l) (part-overlay out 0 (image_in (p.version rows) h (widened p mem)) (omega (arith, made.room, made.size)))
 
-    made-older : verdict_in Older (image_in (p.version rows) h (widened p mem)) ≡ (Ok (tt {0}))
+    made-older : verdict_in Older (image_in (p.version rows) h (widened p mem)) ≡ Ok (tt {0})
     unfolding version_fits
     made-older =
         image-accepted (p.version rows) version_low h (widened p mem) header-fine wide few-rows made.range
@@ -369,7 +369,7 @@ module _ (p : Program) (o : Former p) where
         (ap not (ne_eqb (p.version rows) newest (o.other rows)))
 
     -- WHAT WAS MADE IS TAKEN BY A MOVE FORWARD
-    pub made-taken : verdict_in Older (part z 0 n) ≡ (Ok (tt {0}))
+    pub made-taken : verdict_in Older (part z 0 n) ≡ Ok (tt {0})
     made-taken = rw made-image made-older
 
     pub made-not-3 : eqb (version_of (part z 0 n)) newest ≡ false

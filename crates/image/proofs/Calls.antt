@@ -28,7 +28,7 @@ use Rattle.image.proofs.Moved.{moved-size, moved-accepted, old-welcome, forward-
 -- ---- what it means that an image was moved
 
 pub record Went (way : Way) (image out : List ℕ) (n : ℕ) (z : List ℕ) : Type 0 where
-  pub taken : verdict_in (wanted_by way) image ≡ (Ok (tt {0}))
+  pub taken : verdict_in (wanted_by way) image ≡ Ok (tt {0})
   pub room : length image ≤ length out
   pub size : n ≡ length image
   pub bytes : z ≡ overlay out 0 (moved_of way image)
@@ -40,7 +40,7 @@ pub went : (way : Way) (image out : List ℕ) (n : ℕ) (z : List ℕ) → move_
 unfolding move_of moved_by
 went way image out n z e = by (verdict_in (wanted_by way) image) refl e
   where
-    room : (b : Bool) → leb (length image) (length out) ≡ b → verdict_in (wanted_by way) image ≡ (Ok (tt {0}))
+    room : (b : Bool) → leb (length image) (length out) ≡ b → verdict_in (wanted_by way) image ≡ Ok (tt {0})
         → cond b (saving (Ok (length image)) (overlay out 0 (moved_of way image))) (unsaved ShortOutput out) ≡ saving (Ok n) z → Went way image out n z
     room true g v f =
         let y : Ok (length image) ≡ Ok n = ap (λ (s : Saving). s.answer) f in
@@ -65,7 +65,7 @@ unmoved-leaves way image out z r e = by (verdict_in (wanted_by way) image) e
     by (Err q) f = sym (ap (λ (s : Saving). s.out) f)
 
 -- an image that is taken, in an output that is long enough, is moved
-pub moves : (way : Way) (image out : List ℕ) → verdict_in (wanted_by way) image ≡ (Ok (tt {0})) → length image ≤ length out
+pub moves : (way : Way) (image out : List ℕ) → verdict_in (wanted_by way) image ≡ Ok (tt {0}) → length image ≤ length out
     → move_of way image out ≡ saving (Ok (length image)) (overlay out 0 (moved_of way image))
 unfolding move_of moved_by
 moves way image out v l = rw (v, le-leb (length image) (length out) l)

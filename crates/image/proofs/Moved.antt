@@ -95,7 +95,7 @@ module _ (image : List ℕ) (k : Kept image) (way : Way) where
       ∙ cleared-own rows moved (moved-blank image k way)
 
   -- AND IT IS ACCEPTED, by every call that takes the version
-  pub moved-accepted : (wanted : Wanted) → welcome wanted (version_after way rows) ≡ true → verdict_in wanted (moved_of way image) ≡ (Ok (tt {0}))
+  pub moved-accepted : (wanted : Wanted) → welcome wanted (version_after way rows) ≡ true → verdict_in wanted (moved_of way image) ≡ Ok (tt {0})
   unfolding moved_of
   moved-accepted =
       image-accepted (version_after way rows) (version_below way rows) (header_of image) moved fit (moved_length image k way) (rows_few image k)
@@ -117,7 +117,7 @@ module _ (image : List ℕ) (k : Kept image) (way : Way) where
 
 -- ---- FORWARD THEN BACK GIVES THE SAME BYTES
 
-pub forward-then-back : (image : List ℕ) → Bytes image → verdict_in Older image ≡ (Ok (tt {0})) → moved_of Back (moved_of Forward image) ≡ image
+pub forward-then-back : (image : List ℕ) → Bytes image → verdict_in Older image ≡ Ok (tt {0}) → moved_of Back (moved_of Forward image) ≡ image
 forward-then-back image bytes e =
     let a = kept Older image e in
     let k = a.0 in
@@ -143,7 +143,7 @@ module _ (image : List ℕ) (k : Kept image) where
   row-bytes : Bytes image → (j : ℕ) → j < (header_of image).board.rows → Bytes (row j (rows_of image))
   row-bytes b j h = rw (rows_are j h) (part_bytes image (place_of first_page block_size j) row_size b)
 
-pub unknown-then-same : (image : List ℕ) → Bytes image → verdict_in Newest image ≡ (Ok (tt {0})) → AllUnknown image → moved_of Forward (moved_of Back image) ≡ image
+pub unknown-then-same : (image : List ℕ) → Bytes image → verdict_in Newest image ≡ Ok (tt {0}) → AllUnknown image → moved_of Forward (moved_of Back image) ≡ image
 unknown-then-same image bytes e u =
     let a = kept Newest image e in
     let k = a.0 in
@@ -159,7 +159,7 @@ unknown-then-same image bytes e u =
 pub old-welcome : (rows : ℕ) → welcome Older (old_version rows) ≡ true
 old-welcome rows = ap not (ne_eqb (old_version rows) newest (old-other rows))
 
-pub same-then-unknown : (image : List ℕ) → verdict_in Newest image ≡ (Ok (tt {0})) → moved_of Forward (moved_of Back image) ≡ image → AllUnknown image
+pub same-then-unknown : (image : List ℕ) → verdict_in Newest image ≡ Ok (tt {0}) → moved_of Forward (moved_of Back image) ≡ image → AllUnknown image
 same-then-unknown image e f j h =
     let k = (kept Newest image e).0 in
     let back = moved_of Back image in
@@ -186,7 +186,7 @@ unfolding known_in
 in-none zero mem u = refl
 in-none (suc n) mem u = rw (in-none n mem (λ j h. u j (omega arith)), unknown-none (row n mem) (u n (omega arith)))
 
-module _ (image : List ℕ) (e : verdict_in Newest image ≡ (Ok (tt {0}))) where
+module _ (image : List ℕ) (e : verdict_in Newest image ≡ Ok (tt {0})) where
   pub lost-none : lost_of image ≡ 0 → AllUnknown image
   unfolding lost_of lost_by
   lost-none l = none_in (header_of image).board.rows (rows_of image) (rw e at l)
@@ -198,22 +198,22 @@ module _ (image : List ℕ) (e : verdict_in Newest image ≡ (Ok (tt {0}))) wher
 -- ---- RESTORING DOES NOT TELL AN OLD IMAGE FROM ITS MOVE FORWARD
 
 any-if : (a b c w d : Bool)
-    → cond a (cond b (cond (c && w) (cond d (Ok (tt {0})) (Err BadContents)) (Err BadHead)) (Err BadCheck)) (Err BadLength) ≡ (Ok (tt {0}))
-    → cond a (cond b (cond (c && true) (cond d (Ok (tt {0})) (Err BadContents)) (Err BadHead)) (Err BadCheck)) (Err BadLength) ≡ (Ok (tt {0}))
+    → cond a (cond b (cond (c && w) (cond d (Ok (tt {0})) (Err BadContents)) (Err BadHead)) (Err BadCheck)) (Err BadLength) ≡ Ok (tt {0})
+    → cond a (cond b (cond (c && true) (cond d (Ok (tt {0})) (Err BadContents)) (Err BadHead)) (Err BadCheck)) (Err BadLength) ≡ Ok (tt {0})
 any-if true true true true d e = e
-any-if true true true false d e = let z : Err BadHead ≡ (Ok (tt {0})) = e in cc
+any-if true true true false d e = let z : Err BadHead ≡ Ok (tt {0}) = e in cc
 any-if true true false w d e = e
 any-if true false c w d e = e
 any-if false b c w d e = e
 
 -- an image that a call takes is restored
-pub any-accepted : (wanted : Wanted) (image : List ℕ) → verdict_in wanted image ≡ (Ok (tt {0})) → verdict_of image ≡ (Ok (tt {0}))
+pub any-accepted : (wanted : Wanted) (image : List ℕ) → verdict_in wanted image ≡ Ok (tt {0}) → verdict_of image ≡ Ok (tt {0})
 unfolding verdict_in
 any-accepted wanted image e =
     any-if (length_keeps image) (checks_keep image (count_of image)) (heads_keep image (count_of image) (header_of image)) (welcome wanted (version_of image))
     (contents_keep image (count_of image) (header_of image)) e
 
-pub restore-forward : (image old : List ℕ) → verdict_in Older image ≡ (Ok (tt {0})) → restore_of (moved_of Forward image) old ≡ restore_of image old
+pub restore-forward : (image old : List ℕ) → verdict_in Older image ≡ Ok (tt {0}) → restore_of (moved_of Forward image) old ≡ restore_of image old
 unfolding restore_of restored_by
 restore-forward image old e =
     let a = kept Older image e in

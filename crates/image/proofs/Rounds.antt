@@ -133,18 +133,18 @@ module _ (h : Header) (mem out z : List ℕ) (n : ℕ) (ten : length h.session �
 -- ---- what it means that an image was restored
 
 taken-if : (v : Result (Unit {0}) Refusal) (image old mem : List ℕ) (h : Header) → restored_by v image old ≡ restoring (restored (Ok (tt {0})) h) mem
-    → (v ≡ (Ok (tt {0}))) × (h ≡ header_of image) × (mem ≡ memory_of image)
+    → (v ≡ Ok (tt {0})) × (h ≡ header_of image) × (mem ≡ memory_of image)
 unfolding restored_by
 taken-if (Ok u) image old mem h e = (refl, sym (ap (λ (w : Restoring). w.answer.header) e), sym (ap (λ (w : Restoring). w.memory) e))
 taken-if (Err r) image old mem h e =
-    let y : Err r ≡ (Ok (tt {0})) = ap (λ (w : Restoring). w.answer.verdict) e in let x : ◌≡◌ {A = ℕ} 0 1 = cc in absurd (omega arith)
+    let y : Err r ≡ Ok (tt {0}) = ap (λ (w : Restoring). w.answer.verdict) e in let x : ◌≡◌ {A = ℕ} 0 1 = cc in absurd (omega arith)
 
-sized-if : (b : Bool) (v : Result (Unit {0}) Refusal) → cond b v (Err Unfit) ≡ (Ok (tt {0})) → v ≡ (Ok (tt {0}))
+sized-if : (b : Bool) (v : Result (Unit {0}) Refusal) → cond b v (Err Unfit) ≡ Ok (tt {0}) → v ≡ Ok (tt {0})
 sized-if true v e = e
-sized-if false v e = let z : Err Unfit ≡ (Ok (tt {0})) = e in cc
+sized-if false v e = let z : Err Unfit ≡ Ok (tt {0}) = e in cc
 
 pub taken : (image old mem : List ℕ) (h : Header) → restore_of image old ≡ restoring (restored (Ok (tt {0})) h) mem
-    → (verdict_of image ≡ (Ok (tt {0}))) × (h ≡ header_of image) × (mem ≡ memory_of image)
+    → (verdict_of image ≡ Ok (tt {0})) × (h ≡ header_of image) × (mem ≡ memory_of image)
 unfolding restore_of
 taken image old mem h e =
     let t = taken-if (cond (is_table old) (verdict_of image) (Err Unfit)) image old mem h e in

@@ -87,11 +87,11 @@ module _ (h : Header) (mem out : List ℕ) {r : Bool} (er : r ≡ within_limits 
 -- ---- restoring
 
 -- what acceptance says of the length
-accepted-if : (b : Bool) (v : Result (Unit {0}) Refusal) (r : Refusal) → cond b v (Err r) ≡ (Ok (tt {0})) → b ≡ true
+accepted-if : (b : Bool) (v : Result (Unit {0}) Refusal) (r : Refusal) → cond b v (Err r) ≡ Ok (tt {0}) → b ≡ true
 accepted-if true v r e = refl
-accepted-if false v r e = let z : Err r ≡ (Ok (tt {0})) = e in cc
+accepted-if false v r e = let z : Err r ≡ Ok (tt {0}) = e in cc
 
-pub accepted-long : (wanted : Wanted) (image : List ℕ) (v : Result (Unit {0}) Refusal) → v ≡ verdict_in wanted image → v ≡ (Ok (tt {0})) → Long image
+pub accepted-long : (wanted : Wanted) (image : List ℕ) (v : Result (Unit {0}) Refusal) → v ≡ verdict_in wanted image → v ≡ Ok (tt {0}) → Long image
 unfolding verdict_in
 accepted-long wanted image v e f = long image (accepted-if _ _ BadLength (sym e ∙ f))
 
@@ -112,7 +112,7 @@ module _ (image mem : List ℕ) {w : Bool} (told : w ≡ is_table mem) where
     unfolding restored_by
     restore-refuses r f e = simp (e) (sym (ap (λ (u : Result (Unit {0}) Refusal). restored_by u image mem) f) ∙ judged)
 
-    pub restore-accepts : (h : Header) {n : ℕ} {y z : List ℕ} → v ≡ (Ok (tt {0}))
+    pub restore-accepts : (h : Header) {n : ℕ} {y z : List ℕ} → v ≡ Ok (tt {0})
         → y ≡ pages image first_page block_size (count_of image - 1) ++ replicate (table_size - (count_of image - 1) * body_size) 0
         → h ≡ header_of image → n ≡ version_of image → z ≡ renewed n h.board.rows y
         → restoring (restored (Ok (tt {0})) h) z ≡ restore_of image mem

@@ -145,7 +145,7 @@ lent-long xs at u f h =
     let d : at + body_size - at ≡ body_size = omega arith in
     rw (d, part_length xs at body_size f) (omega arith)
 
-module _ (image : List ℕ) (a : verdict_of image ≡ (Ok (tt {0}))) (way : Way) (rows i : ℕ) (er : rows ≡ (header_of image).board.rows) (h : i < pages_for rows) where
+module _ (image : List ℕ) (a : verdict_of image ≡ Ok (tt {0})) (way : Way) (rows i : ℕ) (er : rows ≡ (header_of image).board.rows) (h : i < pages_for rows) where
   k : Kept image
   k = (kept Any image a).0
 
@@ -177,7 +177,7 @@ record Sizes (h : Header) (mem : List ℕ) : Type 0 where
   sized : length mem ≡ table_size
   few : h.board.rows ≤ most_rows
 
-module _ (image : List ℕ) (a : verdict_of image ≡ (Ok (tt {0}))) (h : Header) (eh : h ≡ header_of image) where
+module _ (image : List ℕ) (a : verdict_of image ≡ Ok (tt {0})) (h : Header) (eh : h ≡ header_of image) where
   pub rows-here : h.board.rows ≤ most_rows
   rows-here = rw eh (rows_few image (kept Any image a).0)
 
@@ -213,7 +213,7 @@ module _ (image : List ℕ) (a : verdict_of image ≡ (Ok (tt {0}))) (h : Header
         blocks-turn version h (each_row (along way) h.board.rows (rows_of image)) sizes.session sizes.sized sizes.few xs k count f ec g ey ez
 
 -- the rows of an image that is restored have room in the table
-pub rows-room : (wanted : Wanted) (image : List ℕ) (h : Header) {v : Result (Unit {0}) Refusal} → v ≡ verdict_in wanted image → v ≡ (Ok (tt {0})) → h ≡ header_of image
+pub rows-room : (wanted : Wanted) (image : List ℕ) (h : Header) {v : Result (Unit {0}) Refusal} → v ≡ verdict_in wanted image → v ≡ Ok (tt {0}) → h ≡ header_of image
     → row_at h.board.rows ≤ table_size
 rows-room wanted image h e f g = omega (arith, rows-here image (any-accepted wanted image (sym e ∙ f)) h g)
 
@@ -224,21 +224,21 @@ module _ (way : Way) (image out : List ℕ) {w : Wanted} (ew : w ≡ wanted_by w
   unfolding move_of
   judged = rw (ev, ew)
 
-  pub move-any : v ≡ (Ok (tt {0})) → verdict_of image ≡ (Ok (tt {0}))
+  pub move-any : v ≡ Ok (tt {0}) → verdict_of image ≡ Ok (tt {0})
   move-any f = any-accepted w image (sym ev ∙ f)
 
-  pub move-long : v ≡ (Ok (tt {0})) → block_size ≤ length image
+  pub move-long : v ≡ Ok (tt {0}) → block_size ≤ length image
   move-long f = (kept Any image (move-any f)).0.size.some
 
   pub move-refused : (r : Refusal) → v ≡ Err r → unsaved r out ≡ move_of way image out
   unfolding moved_by
   move-refused r f = sym (ap (λ (x : Result (Unit {0}) Refusal). moved_by x way image out) f) ∙ judged
 
-  pub move-short : v ≡ (Ok (tt {0})) → length out < length image → unsaved ShortOutput out ≡ move_of way image out
+  pub move-short : v ≡ Ok (tt {0}) → length out < length image → unsaved ShortOutput out ≡ move_of way image out
   unfolding moved_by
   move-short f n = sym (ap (λ (x : Result (Unit {0}) Refusal). moved_by x way image out) f ∙ rw (lt-leb (length image) (length out) n)) ∙ judged
 
-  pub move-whole : (h : Header) {n : ℕ} {z : List ℕ} → v ≡ (Ok (tt {0})) → length image ≤ length out → h ≡ header_of image → n ≡ version_after way h.board.rows
+  pub move-whole : (h : Header) {n : ℕ} {z : List ℕ} → v ≡ Ok (tt {0}) → length image ≤ length out → h ≡ header_of image → n ≡ version_after way h.board.rows
       → z ≡ overlay out 0 (image_in n h (each_row (along way) h.board.rows (rows_of image))) → saving (Ok (length image)) z ≡ move_of way image out
   unfolding moved_by moved_of
   move-whole h f l eh en ez =
@@ -246,7 +246,7 @@ module _ (way : Way) (image out : List ℕ) {w : Wanted} (ew : w ≡ wanted_by w
 
 -- ---- the times that are counted
 
-module _ (image : List ℕ) (e : verdict_of image ≡ (Ok (tt {0}))) (used : ℕ) (eu : used ≡ (header_of image).board.rows) (k at : ℕ) (h : k < used) (ea : at ≡ place_of first_page block_size k) where
+module _ (image : List ℕ) (e : verdict_of image ≡ Ok (tt {0})) (used : ℕ) (eu : used ≡ (header_of image).board.rows) (k at : ℕ) (h : k < used) (ea : at ≡ place_of first_page block_size k) where
   one : Kept image
   one = (kept Any image e).0
 
@@ -259,7 +259,7 @@ module _ (image : List ℕ) (e : verdict_of image ≡ (Ok (tt {0}))) (used : ℕ
   unfolding known_in
   known-turn t g = rw (add-one, t, g, lent image at, ea, rows_are image one k (rw eu at h))
 
-pub few-used : (image : List ℕ) → verdict_of image ≡ (Ok (tt {0})) → (used : ℕ) → used ≡ (header_of image).board.rows → used ≤ most_rows
+pub few-used : (image : List ℕ) → verdict_of image ≡ Ok (tt {0}) → (used : ℕ) → used ≡ (header_of image).board.rows → used ≤ most_rows
 few-used image e used eu = rw eu (rows_few image (kept Any image e).0)
 
 pub known-begin : (mem : List ℕ) → 0 ≡ known_in 0 mem
@@ -271,13 +271,13 @@ known-end mem k used t f g = let i : k ≡ used = omega arith in t ∙ ap (λ (n
 
 -- the ways through what is lost
 module _ (image : List ℕ) {v : Result (Unit {0}) Refusal} (ev : v ≡ verdict_in Newest image) where
-  pub lost-taken : v ≡ (Ok (tt {0})) → verdict_of image ≡ (Ok (tt {0}))
+  pub lost-taken : v ≡ Ok (tt {0}) → verdict_of image ≡ Ok (tt {0})
   lost-taken f = any-accepted Newest image (sym ev ∙ f)
 
-  pub lost-long : v ≡ (Ok (tt {0})) → block_size ≤ length image
+  pub lost-long : v ≡ Ok (tt {0}) → block_size ≤ length image
   lost-long f = (kept Any image (lost-taken f)).0.size.some
 
-  pub lost-counted : (h : Header) {n : ℕ} → v ≡ (Ok (tt {0})) → h ≡ header_of image → n ≡ known_in h.board.rows (rows_of image) → n ≡ lost_of image
+  pub lost-counted : (h : Header) {n : ℕ} → v ≡ Ok (tt {0}) → h ≡ header_of image → n ≡ known_in h.board.rows (rows_of image) → n ≡ lost_of image
   unfolding lost_of lost_by
   lost-counted h f eh en = rw (← ev, f, ← eh) en
 

@@ -15,11 +15,11 @@ use Rattle.message.specs.declared.Message.TheVariants as message
 use Rattle.std.specs.Prelude.{Option}
 use Rattle.std.specs.Prelude.{Some, None}
 use Rattle.message.specs.declared.Side.TheVariants.{Bid}
-use Rattle.message.specs.declared.Written.TheVariants.{Unwritten}
 use Rattle.message.specs.declared.WriteRefusal.TheVariants.{BrokenRecord}
 use Rattle.message.specs.declared.Refusal.{Refusal}
 use Rattle.message.specs.declared.Refusal.TheVariants.{UnknownLetter, WrongLength, BadField}
 use Rattle.message.proofs.Feeds.{written_read}
+use Rattle.std.specs.Prelude.{Err}
 
 -- start of messages, tracking number 7, at 9:30:00.123456789
 start : Message
@@ -73,7 +73,7 @@ unfolding bid bid_bytes read_of bytes_read letter_read fields_read letters lette
 read_none = refl
 
 -- zero held as a price above zero is not written, to output of any length, though its bytes would be those of none
-zero-broken : (out : List ℕ) → write_of (bid (Some 0)) no_texts out ≡ outcome (Unwritten BrokenRecord) out
+zero-broken : (out : List ℕ) → write_of (bid (Some 0)) no_texts out ≡ outcome (Err BrokenRecord) out
 unfolding bid write_of keeps keeps_all listed
 zero-broken out = refl
 

@@ -15,11 +15,11 @@ use Rattle.message.specs.declared.Message.TheVariants as message
 use Rattle.std.specs.Prelude.{Option}
 use Rattle.std.specs.Prelude.{Some}
 use Rattle.message.specs.declared.Texts.{Texts}
-use Rattle.message.specs.declared.Written.TheVariants.{Unwritten}
 use Rattle.message.specs.declared.WriteRefusal.TheVariants.{BrokenRecord}
 use Rattle.message.proofs.Layouts.{never}
 use Rattle.message.proofs.Rounds.{write_read}
 use Rattle.message.proofs.Ways.{write-broken, side-rules, quote-rules}
+use Rattle.std.specs.Prelude.{Err}
 
 -- a price that keeps its rule, whatever else is asked of its number
 kept_above : (x : Option ℕ) (p : ℕ → Bool) → holds (price p) (priced x) ≡ true → x ≡ Some 0 → ⊥
@@ -55,9 +55,9 @@ pub read-no-zero : (bs : List ℕ) → Bytes bs → (m : Message) (t : Texts) �
 read-no-zero bs s m t e = kept-no-zero m t (write_read bs s m t e).1
 
 -- THEOREM: a message that does is refused with 26, before 25, whatever else it holds, and nothing is written
-pub zero-unwritten : (m : Message) (t : Texts) (out : List ℕ) → (NoZero (prices_of m) → ⊥) → write_of m t out ≡ outcome (Unwritten BrokenRecord) out
+pub zero-unwritten : (m : Message) (t : Texts) (out : List ℕ) → (NoZero (prices_of m) → ⊥) → write_of m t out ≡ outcome (Err BrokenRecord) out
 zero-unwritten m t out z = by (keeps m t) refl
   where
-    by : (b : Bool) → keeps m t ≡ b → write_of m t out ≡ outcome (Unwritten BrokenRecord) out
+    by : (b : Bool) → keeps m t ≡ b → write_of m t out ≡ outcome (Err BrokenRecord) out
     by true k = absurd (z (kept-no-zero m t k))
     by false k = sym (write-broken m t out (keeps m t) refl k)

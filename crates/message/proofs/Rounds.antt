@@ -11,12 +11,12 @@ use Rattle.message.specs.Letters.{letters, letter_in, letter_for, unlisted, fiel
 use Rattle.message.specs.Message.{accepted, refused, told, read_of, bytes_of, keeps, Typed, texts_with}
 use Rattle.message.specs.declared.Message.{Message}
 use Rattle.message.specs.declared.Texts.{Texts}
-use Rattle.message.specs.declared.Answer.TheVariants.{Is}
 use Rattle.message.specs.declared.Reading.{Reading}
 use Rattle.message.proofs.Layouts.{written-length}
 use Rattle.message.proofs.Feeds.{tiled-found, bytes_back, written_read, Verdict, empty, unknown, long, field, whole}
 use Rattle.message.proofs.Table.{is-listed-letter, found-makes, letters-tiled}
 use Rattle.message.proofs.Verdicts.{read-verdict, clash}
+use Rattle.std.specs.Prelude.{Ok}
 
 -- ---- what is written is read back
 
@@ -51,7 +51,7 @@ verdict-back bs x s (whole c rest i k) m t e =
     let l = letter_in letters c in
     let vs = values l.rows (c ∷ rest) in
     let w = found-makes c (c ∷ rest) i.is_listed in
-    let o : Is (l.makes vs).0 ≡ Is m = ap (λ (y : Reading). y.answer) e in
+    let o : Ok (l.makes vs).0 ≡ Ok m = ap (λ (y : Reading). y.answer) e in
     let p : (l.makes vs).0 ≡ m = cc in
     let q : (l.makes vs).1 ≡ t = ap (λ (y : Reading). y.texts) e in
     rw (← p, ← q, w.own, w.fields) (bytes_back unlisted refl letters c rest letters-tiled s i k, k)

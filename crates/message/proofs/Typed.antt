@@ -24,13 +24,13 @@ use Rattle.message.specs.Letters.{Content, listed, letters, letter_in, letter_fo
 use Rattle.message.specs.Message.{accepted, refused, told, read_of, keeps, Typed}
 use Rattle.message.specs.declared.Message.{Message}
 use Rattle.message.specs.declared.Texts.{Texts}
-use Rattle.message.specs.declared.Answer.TheVariants as answer
 use Rattle.message.specs.declared.Reading.{Reading}
 use Rattle.message.proofs.Amounts.{amount-from}
 use Rattle.message.proofs.Layouts.{never}
 use Rattle.message.proofs.Feeds.{found, Verdict, empty, unknown, long, field, whole}
 use Rattle.message.proofs.Table.{found-makes}
 use Rattle.message.proofs.Verdicts.{read-verdict, clash}
+use Rattle.std.specs.Prelude.{Ok}
 
 -- ---- the values of bytes
 
@@ -91,7 +91,7 @@ letter-inside c = found unlisted (λ (l : Letter Content). inside l.size l.rows 
 
 -- what is wanted of the reading of some bytes, if it is a message
 abbrev pub Read : List ℕ → Reading → Type 0
-Read bs x = (m : Message) → x.answer ≡ answer.Is m → Typed m x.texts × (keeps m x.texts ≡ true) × (length bs ≡ (letter_for m).size)
+Read bs x = (m : Message) → x.answer ≡ Ok m → Typed m x.texts × (keeps m x.texts ≡ true) × (length bs ≡ (letter_for m).size)
 
 verdict-read : (bs : List ℕ) (x : Reading) → Bytes bs → Verdict told refused (letter_in letters) bs x → Read bs x
 unfolding keeps

@@ -12,13 +12,14 @@ use Rattle.message.specs.Letters.{letters, letter_in, unlisted}
 use Rattle.message.specs.Message.{refused, told, read_of, Outcome, outcome, write_of}
 use Rattle.message.specs.declared.Message.{Message}
 use Rattle.message.specs.declared.Texts.{Texts}
-use Rattle.message.specs.declared.Answer.{Answer}
-use Rattle.message.specs.declared.Answer.TheVariants as answer
 use Rattle.message.specs.declared.Refusal.{Refusal}
 use Rattle.message.specs.declared.Reading.{Reading}
-use Rattle.message.specs.declared.Written.{Written}
 use Rattle.message.proofs.Layouts.{never}
 use Rattle.message.proofs.Feeds.{Verdict, empty, unknown, long, field, whole, verdict}
+use Rattle.std.specs.Prelude.{Err}
+use Rattle.std.specs.Prelude.{Ok}
+use Rattle.std.specs.Prelude.{Result}
+use Rattle.message.specs.declared.WriteRefusal.{WriteRefusal}
 
 -- THEOREM: every reading is given under its condition
 pub read-verdict : (bs : List ℕ) → Verdict told refused (letter_in letters) bs (read_of bs)
@@ -26,7 +27,7 @@ unfolding read_of
 read-verdict = verdict told refused unlisted letters
 
 -- a refusal is no message
-pub clash : {A : Type 0} {r : Refusal} {m : Message} → answer.Refused r ≡ answer.Is m → A
+pub clash : {A : Type 0} {r : Refusal} {m : Message} → Err r ≡ Ok m → A
 clash {r = r} {m = m} e = let z : ◌≡◌ {A = ℕ} 0 1 = cc in absurd (omega arith)
 
 -- ---- acceptance
@@ -36,9 +37,9 @@ abbrev pub Fine : List ℕ → Type 0
 Fine [] = ⊥
 Fine (c ∷ bs) = Sized (letter_in letters c) (c ∷ bs) × (keeps_all (letter_in letters c).rows (values (letter_in letters c).rows (c ∷ bs)) ≡ true)
 
-abbrev pub Taken : Answer → Type 0
-Taken (answer.Is m) = Unit
-Taken (answer.Refused r) = ⊥
+abbrev pub Taken : Result Message Refusal → Type 0
+Taken (Ok m) = Unit
+Taken (Err r) = ⊥
 
 taken_fine : {bs : List ℕ} {r : Reading} → Verdict told refused (letter_in letters) bs r → Taken r.answer → Fine bs
 taken_fine empty t = absurd t
@@ -59,7 +60,7 @@ pub accepted-exactly : (bs : List ℕ) → (Taken (read_of bs).answer → Fine b
 accepted-exactly bs = (taken_fine (read-verdict bs), fine-taken (read-verdict bs))
 
 -- EQUAL ANSWERS: two answers of `write` that meet its promise agree, and so do the memories that they leave
-pub equal-writes : (m : Message) (t : Texts) (out : List ℕ) (a b : Written) (x y : List ℕ)
+pub equal-writes : (m : Message) (t : Texts) (out : List ℕ) (a b : Result ℕ WriteRefusal) (x y : List ℕ)
     → outcome a x ≡ write_of m t out → outcome b y ≡ write_of m t out → (a ≡ b) × (x ≡ y)
 equal-writes m t out a b x y p q =
     let e : outcome a x ≡ outcome b y = equal-answers p q in

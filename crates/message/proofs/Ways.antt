@@ -29,10 +29,11 @@ use Rattle.message.specs.declared.EndOfReplay.{EndOfReplay}
 use Rattle.message.specs.declared.Texts.{Texts}
 use Rattle.message.specs.declared.Refusal.TheVariants.{UnknownLetter, WrongLength, BadField}
 use Rattle.message.specs.declared.Reading.{Reading}
-use Rattle.message.specs.declared.Written.TheVariants.{Whole, Unwritten}
 use Rattle.message.specs.declared.WriteRefusal.TheVariants.{BrokenRecord, ShortOutput}
 use Rattle.message.proofs.Layouts.{rows_in, values-in-part}
 use Rattle.message.proofs.Feeds.{as-unknown, as_long, as_fields, read_none, read_some}
+use Rattle.std.specs.Prelude.{Err}
+use Rattle.std.specs.Prelude.{Ok}
 
 -- ---- reading
 
@@ -88,16 +89,16 @@ room-for m' n e h = rw e at h
 -- ---- writing
 
 module _ (m : Message) (t : Texts) (out : List ℕ) (ok : Bool) (po : ok ≡ keeps m t) where
-  pub write-broken : ok ≡ false → outcome (Unwritten BrokenRecord) out ≡ write_of m t out
+  pub write-broken : ok ≡ false → outcome (Err BrokenRecord) out ≡ write_of m t out
   unfolding write_of
   write-broken n = rw (← po, n)
 
-  pub write-short : (size : ℕ) → ok ≡ true → size ≡ (letter_for m).size → length out < size → outcome (Unwritten ShortOutput) out ≡ write_of m t out
+  pub write-short : (size : ℕ) → ok ≡ true → size ≡ (letter_for m).size → length out < size → outcome (Err ShortOutput) out ≡ write_of m t out
   unfolding write_of
   write-short size y e l = rw (← po, y, ← e, lt-leb size (length out) l)
 
   pub write-whole : (size : ℕ) {zs : List ℕ} → ok ≡ true → size ≡ (letter_for m).size → size ≤ length out → zs ≡ overlay out 0 (bytes_of m t)
-      → outcome (Whole size) zs ≡ write_of m t out
+      → outcome (Ok size) zs ≡ write_of m t out
   unfolding write_of
   write-whole size y e l p = rw (← po, y, ← e, le-leb size (length out) l, p)
 

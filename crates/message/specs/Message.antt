@@ -10,12 +10,12 @@ use Rattle.message.specs.declared.Message.TheVariants as message
 use Rattle.message.specs.declared.Texts.{Texts}
 use Rattle.message.specs.declared.Refusal.{Refusal}
 use Rattle.message.specs.declared.Refusal.TheVariants.{UnknownLetter, WrongLength, BadField}
-use Rattle.message.specs.declared.Answer.TheVariants.{Is, Refused}
 use Rattle.message.specs.declared.Reading.{Reading}
-use Rattle.message.specs.declared.Written.{Written}
-use Rattle.message.specs.declared.Written.TheVariants.{Whole, Unwritten}
 use Rattle.message.specs.declared.WriteRefusal.{WriteRefusal}
 use Rattle.message.specs.declared.WriteRefusal.TheVariants.{BrokenRecord, ShortOutput}
+use Rattle.std.specs.Prelude.{Err}
+use Rattle.std.specs.Prelude.{Ok}
+use Rattle.std.specs.Prelude.{Result}
 
 -- ---- the paper's number of each refusal
 abbrev pub refusal_number : Refusal → ℕ
@@ -30,10 +30,10 @@ write_refusal_number ShortOutput = 25
 -- ---- READING
 
 abbrev pub accepted : Message → Texts → Reading
-accepted m t = record { answer = Is m; texts = t }
+accepted m t = record { answer = Ok m; texts = t }
 
 abbrev pub refused : Refusal → Reading
-refused r = record { answer = Refused r; texts = no_texts }
+refused r = record { answer = Err r; texts = no_texts }
 
 -- the feed's bytes read by its ten letters
 abbrev pub told : Content → Reading
@@ -61,10 +61,10 @@ keeps m t = keeps_all (letter_for m).rows (fields_of m t)
 
 -- an answer, and the memory that it leaves
 pub record Outcome : Type 0 where
-  pub answer : Written
+  pub answer : Result ℕ WriteRefusal
   pub memory : List ℕ
 
-abbrev pub outcome : Written → List ℕ → Outcome
+abbrev pub outcome : Result ℕ WriteRefusal → List ℕ → Outcome
 outcome a out = record { answer = a; memory = out }
 
 -- 26 for a record that breaks its field rules, then 25 for output too short, and nothing written; else exactly the letter's length, from the start
@@ -72,9 +72,9 @@ unfoldable pub write_of : Message → Texts → List ℕ → Outcome
 write_of m t out =
     cond (keeps m t)
     (cond (leb (letter_for m).size (length out))
-    (outcome (Whole (letter_for m).size) (overlay out 0 (bytes_of m t)))
-    (outcome (Unwritten ShortOutput) out))
-    (outcome (Unwritten BrokenRecord) out)
+    (outcome (Ok (letter_for m).size) (overlay out 0 (bytes_of m t)))
+    (outcome (Err ShortOutput) out))
+    (outcome (Err BrokenRecord) out)
 
 -- ---- what the theorems speak of
 

@@ -8,14 +8,17 @@ use Rattle.message.specs.Letters.{Content, letter_in, listed, option_types, clos
 use Rattle.message.specs.Feed.{Letter}
 use Rattle.message.specs.Message.{refusal_number}
 use Rattle.message.specs.declared.Side.TheVariants.{Bid, Ask}
-use Rattle.message.specs.declared.Answer.{Answer}
-use Rattle.message.specs.declared.Answer.TheVariants.{Is, Refused}
 use Rattle.message.specs.declared.Reading.{Reading}
+use Rattle.std.specs.Prelude.{Err}
+use Rattle.std.specs.Prelude.{Ok}
+use Rattle.std.specs.Prelude.{Result}
+use Rattle.message.specs.declared.Refusal.{Refusal}
+use Rattle.message.specs.declared.Message.{Message}
 
 -- 0 for a message, or the number of the refusal
-abbrev pub tested_as : Answer → ℕ
-tested_as (Is m) = 0
-tested_as (Refused r) = refusal_number r
+abbrev pub tested_as : Result Message Refusal → ℕ
+tested_as (Ok m) = 0
+tested_as (Err r) = refusal_number r
 
 abbrev pub tested : Reading → ℕ
 tested r = tested_as r.answer

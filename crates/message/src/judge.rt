@@ -8,7 +8,7 @@ ghost use Rattle.message.specs.Feed.{Sized};
 ghost use Rattle.message.specs.Letters.{listed, conditions, no_texts, letters, letter_in, directory_letter, directory_rows, system_event_letter, system_event_rows, trading_action_letter, trading_action_rows, short_quote_letter, short_quote_rows, long_quote_letter, long_quote_rows, short_side_letter, short_side_rows, long_side_letter, long_side_rows, end_of_replay_letter, end_of_replay_rows};
 ghost use Rattle.message.specs.Message.{accepted, read_fields};
 
-use crate::{Answer, Message, Reading, Refusal, Side, entry, lengths, rules, take};
+use crate::{Message, Reading, Refusal, Side, entry, lengths, rules, take};
 use field::limits;
 
 // A message that has no texts, read whole.
@@ -16,7 +16,7 @@ fn whole(m: Message) -> Reading
     ensures { result ≡ accepted m no_texts }
 {
     Reading {
-        answer: Answer::Is(m),
+        answer: Ok(m),
         texts: crate::no_texts(),
     }
 }
@@ -40,7 +40,7 @@ fn directory(bytes: &[u8]) -> Reading
     let texts = entry::texts(&bytes[11..lengths::DIRECTORY]);
     if rules::keep_directory(m, texts) {
         return Reading {
-            answer: Answer::Is(Message::Directory(m)),
+            answer: Ok(Message::Directory(m)),
             texts,
         };
     }

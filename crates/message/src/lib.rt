@@ -153,14 +153,8 @@ pub enum Refusal {
 }
 
 #[derive(Clone, Copy)]
-pub enum Answer {
-    Is(Message),
-    Refused(Refusal),
-}
-
-#[derive(Clone, Copy)]
 pub struct Reading {
-    pub answer: Answer,
+    pub answer: Result<Message, Refusal>,
     pub texts: Texts,
 }
 
@@ -168,13 +162,6 @@ pub struct Reading {
 pub enum WriteRefusal {
     BrokenRecord,
     ShortOutput,
-}
-
-// All of a message's bytes, so many; or nothing.
-#[derive(Clone, Copy)]
-pub enum Written {
-    Whole(usize),
-    Unwritten(WriteRefusal),
 }
 
 pub fn refusal_number(r: Refusal) -> u8
@@ -210,7 +197,7 @@ fn refuse(r: Refusal) -> Reading
     ensures { result ≡ refused r }
 {
     Reading {
-        answer: Answer::Refused(r),
+        answer: Err(r),
         texts: no_texts(),
     }
 }
@@ -232,16 +219,16 @@ pub fn read(bytes: &[u8]) -> Reading
     judge::message(letter, bytes)
 }
 
-pub fn write(message: Message, texts: Texts, out: &mut [u8]) -> Written
+pub fn write(message: Message, texts: Texts, out: &mut [u8]) -> Result<usize, WriteRefusal>
     ensures { outcome result out.new ≡ write_of message texts out.old }
 {
     if !rules::keep(message, texts) {
-        return Written::Unwritten(WriteRefusal::BrokenRecord);
+        return Err(WriteRefusal::BrokenRecord);
     }
     let size = lengths::length_for(message);
     if out.len() < size {
-        return Written::Unwritten(WriteRefusal::ShortOutput);
+        return Err(WriteRefusal::ShortOutput);
     }
     put::message(message, texts, out);
-    Written::Whole(size)
+    Ok(size)
 }

@@ -29,8 +29,6 @@ use Rattle.reader.specs.declared.Reader.{Reader}
 use Rattle.reader.specs.declared.Started.{Started}
 use Rattle.reader.specs.declared.Restored.{Restored}
 use Rattle.reader.specs.declared.Refusal.{Refusal}
-use Rattle.reader.specs.declared.StartAnswer.{StartAnswer}
-use Rattle.reader.specs.declared.StartAnswer.TheVariants as started
 use Rattle.reader.proofs.Kept.{may-unless-limits, may-unless-index, may-by}
 use Rattle.reader.proofs.Views.{head_in_lem, memory-in, reader-back}
 use Rattle.block.specs.Block.{block_size}
@@ -44,8 +42,6 @@ use Rattle.image.specs.declared.Refusal as image
 use Rattle.image.proofs.Again as again
 use Rattle.image.proofs.Rounds.{stored}
 use Rattle.image.proofs.Calls.{went}
-use Rattle.image.specs.declared.Saved.{Saved}
-use Rattle.image.specs.declared.Saved.TheVariants as saved
 use Rattle.image.specs.declared.Way.{Way}
 use Rattle.row.specs.Fields.{row_size}
 use Rattle.table.specs.Memory.{most_rows, table_size, rows_fit, Fitting, Memories, memories}
@@ -60,6 +56,9 @@ use Rattle.listing.specs.declared.Shown.TheVariants as shown
 use Rattle.listing.specs.declared.Text.{Text}
 use Rattle.listing.specs.declared.Ending.{Ending}
 use Rattle.nelqubat.specs.Host.{no_held, unheld, started_as, start_host, StartsOn, restored_as, restore_host, RestoresOn, saved_number, saved_as, SavedFits, save_host, move_host, line_to, shown_to, line_host, FoundFits, found_number, find_host}
+use Rattle.std.specs.Prelude.{Err}
+use Rattle.std.specs.Prelude.{Ok}
+use Rattle.std.specs.Prelude.{Result}
 
 -- ---- a reader that holds nothing, over a handle
 
@@ -122,16 +121,16 @@ module _ (handle : List ℕ) (memory : Memories) where
 
 -- ---- saving
 
-number-any : (s : Saved) (x y : List ℕ) → answered (saved_number (written_of s x)) y ≡ saved_as (written_of s y)
-number-any (saved.Whole n) x y = refl
-number-any (saved.Unsaved r) x y = refl
+number-any : (s : Result ℕ image.Refusal) (x y : List ℕ) → answered (saved_number (written_of s x)) y ≡ saved_as (written_of s y)
+number-any (Ok n) x y = refl
+number-any (Err r) x y = refl
 
 module _ (handle table out : List ℕ) {b : Bool} (e : b ≡ is_handle handle) where
   pub save-no-handle : not b ≡ true → answered 20 out ≡ save_host handle table out
   unfolding save_host
   save-no-handle f = rw (not_call b (is_handle handle) e f)
 
-  pub save-goes : {n : ℕ} (r : Reader) (s : Saved) (after : List ℕ) → not b ≡ false → r ≡ reader_in handle → Saves r table out s after → n ≡ saved_number (written_of s [])
+  pub save-goes : {n : ℕ} (r : Reader) (s : Result ℕ image.Refusal) (after : List ℕ) → not b ≡ false → r ≡ reader_in handle → Saves r table out s after → n ≡ saved_number (written_of s [])
       → answered n after ≡ save_host handle table out
   unfolding save_host
   save-goes r s after f g h i =
@@ -139,18 +138,18 @@ module _ (handle table out : List ℕ) {b : Bool} (e : b ≡ is_handle handle) w
 
 -- ---- a move
 
-pub move-goes : (way : Way) (image out : List ℕ) {n : ℕ} (s : Saved) (after : List ℕ) → saving s after ≡ move_of way image out → n ≡ saved_number (written_of s [])
+pub move-goes : (way : Way) (image out : List ℕ) {n : ℕ} (s : Result ℕ image.Refusal) (after : List ℕ) → saving s after ≡ move_of way image out → n ≡ saved_number (written_of s [])
     → answered n after ≡ move_host way image out
 unfolding move_host
 move-goes way image out s after h i = ap (λ (x : ℕ). answered x after) i ∙ number-any s [] after ∙ ap (λ (o : Saving). saved_as (written_by o)) h
 
 -- a moved image is as long as it was
-pub move-fits : (way : Way) (image out : List ℕ) (s : Saved) (after : List ℕ) → saving s after ≡ move_of way image out → SavedFits s
-move-fits way image out (saved.Whole n) after e =
+pub move-fits : (way : Way) (image out : List ℕ) (s : Result ℕ image.Refusal) (after : List ℕ) → saving s after ≡ move_of way image out → SavedFits s
+move-fits way image out (Ok n) after e =
     let g = went way image out n after (sym e) in
     let k = (again.kept (wanted_by way) image g.taken).0.size in
     omega (arith, g.size, k.few, k.whole)
-move-fits way image out (saved.Unsaved r) after e = omega arith
+move-fits way image out (Err r) after e = omega arith
 
 -- ---- a line
 
@@ -286,20 +285,20 @@ size_few : (rows : ℕ) → rows ≤ most_rows → size_for rows ≤ most_blocks
 unfolding size_for blocks_for pages_for
 size_few rows h = omega arith
 
-saved-few : (h : Header) (mem out : List ℕ) (s : Saved) (z : List ℕ) → save_of h mem out ≡ saving s z → SavedFits s
+saved-few : (h : Header) (mem out : List ℕ) (s : Result ℕ image.Refusal) (z : List ℕ) → save_of h mem out ≡ saving s z → SavedFits s
 unfolding headers.within_limits fits
-saved-few h mem out (saved.Whole n) z e =
+saved-few h mem out (Ok n) z e =
     let a = stored h mem out n z e in
     let f = both_left (fits h.board mem) (number_in_range h.next) a.within in
     let few : h.board.rows ≤ most_rows = leb-true h.board.rows most_rows (both_right (eqb (length mem) table_size) _ f) in
     rw a.size (size_few h.board.rows few)
-saved-few h mem out (saved.Unsaved r) z e = omega arith
+saved-few h mem out (Err r) z e = omega arith
 
-count-any : (s : Saved) (x y : List ℕ) → (written_of s x).count ≡ (written_of s y).count
-count-any (saved.Whole n) x y = refl
-count-any (saved.Unsaved r) x y = refl
+count-any : (s : Result ℕ image.Refusal) (x y : List ℕ) → (written_of s x).count ≡ (written_of s y).count
+count-any (Ok n) x y = refl
+count-any (Err r) x y = refl
 
-pub saves-fit : (r : Reader) (memory out : List ℕ) (s : Saved) (after : List ℕ) → Saves r memory out s after → SavedFits s
+pub saves-fit : (r : Reader) (memory out : List ℕ) (s : Result ℕ image.Refusal) (after : List ℕ) → Saves r memory out s after → SavedFits s
 unfolding save_all
 saves-fit r memory out s after e = rw (count-any s [] after ∙ ap (λ (w : Written). w.count) e) (by (within_limits r memory))
   where
@@ -311,17 +310,17 @@ saves-fit r memory out s after e = rw (count-any s [] after ∙ ap (λ (w : Writ
 
 -- ---- answers as numbers
 
-pub started-ready : {a : StartAnswer} → a ≡ started.Ready → 0 ≡ start_number a
+pub started-ready : {a : Result (Unit {0}) Refusal} → a ≡ Ok (tt {0}) → 0 ≡ start_number a
 started-ready e = rw e
 
-pub started-refused : {a : StartAnswer} {r : Refusal} {n : ℕ} → a ≡ started.Refused r → n ≡ refusal_number r → n ≡ start_number a
+pub started-refused : {a : Result (Unit {0}) Refusal} {r : Refusal} {n : ℕ} → a ≡ Err r → n ≡ refusal_number r → n ≡ start_number a
 started-refused e f = rw (e, f)
 
-pub saved-whole : {s : Saved} {n : ℕ} → s ≡ saved.Whole n → n * 256 ≡ saved_number (written_of s [])
+pub saved-whole : {s : Result ℕ image.Refusal} {n : ℕ} → s ≡ Ok n → n * 256 ≡ saved_number (written_of s [])
 saved-whole e = rw e (omega arith)
 
-pub saved-not : {s : Saved} {r : image.Refusal} {n : ℕ} → s ≡ saved.Unsaved r → n ≡ images.refusal_number r → n ≡ saved_number (written_of s [])
+pub saved-not : {s : Result ℕ image.Refusal} {r : image.Refusal} {n : ℕ} → s ≡ Err r → n ≡ images.refusal_number r → n ≡ saved_number (written_of s [])
 saved-not e f = rw (e, f) (omega arith)
 
-pub saved-fits : {s : Saved} {n : ℕ} → s ≡ saved.Whole n → SavedFits s → n ≤ most_blocks * block_size
+pub saved-fits : {s : Result ℕ image.Refusal} {n : ℕ} → s ≡ Ok n → SavedFits s → n ≤ most_blocks * block_size
 saved-fits e f = rw e at f

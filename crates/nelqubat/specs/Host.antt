@@ -10,7 +10,6 @@ use Rattle.handle.specs.Handle.{handle_size, is_handle, head_of, handle_bytes}
 use Rattle.block.specs.Block.{block_size}
 use Rattle.image.specs.Shape.{most_blocks}
 use Rattle.image.specs.Moves.{move_of}
-use Rattle.image.specs.declared.Saved.{Saved}
 use Rattle.image.specs.declared.Way.{Way}
 use Rattle.table.specs.Memory.{most_rows, Memories, Found, At, Nothing, row_for}
 use Rattle.table.specs.Index.{sought}
@@ -26,6 +25,8 @@ use Rattle.reader.specs.View.{state_of, memory_in}
 use Rattle.reader.specs.Calls.{Begun, start_all}
 use Rattle.reader.specs.Saving.{Written, written_of, written_by, Came, save_all, restore_all}
 use Rattle.reader.specs.Handles.{reader_in, host_within, host_may_step, head_in, Left, left}
+use Rattle.std.specs.Prelude.{Result}
+use Rattle.image.specs.declared.Refusal.{Refusal}
 
 -- ---- STARTING AND RESTORING
 
@@ -82,7 +83,7 @@ abbrev pub HostSaves : List ℕ → List ℕ → List ℕ → ℕ → List ℕ �
 HostSaves handle table out a out' = answered a out' ≡ save_host handle table out
 
 -- the count has room: no image is longer
-abbrev pub SavedFits : Saved → Type 0
+abbrev pub SavedFits : Result ℕ Refusal → Type 0
 SavedFits s = (written_of s []).count ≤ most_blocks * block_size
 
 -- ---- MOVING AN IMAGE (W-209)

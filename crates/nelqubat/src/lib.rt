@@ -15,10 +15,9 @@ ghost use Rattle.reader.specs.Running.{HostRuns, RunsOn};
 ghost use Rattle.nelqubat.specs.Host.{no_held, HostStarts, StartsOn, HostRestores, RestoresOn, saved_number, SavedFits, HostSaves, HostMoves, line_to, shown_to, host_version, line_host, FoundFits, found_number, find_host};
 
 use handle::{HANDLE_SIZE, HEAD_SIZE, Head};
-use image::Saved;
 use listing::{Shown, Text};
 use packet::HELD_SIZE;
-use reader::{Reader, StartAnswer};
+use reader::{Reader};
 use record::RECORD_SIZE;
 use table::index;
 use table::index::Sought;
@@ -82,8 +81,8 @@ pub fn nelqubat_start(handle: &mut [u8], table: &mut [u8], index: &mut [u8]) -> 
     let answer = started.answer;
     put_unheld(reader.head(), handle);
     match answer {
-        StartAnswer::Ready => 0,
-        StartAnswer::Refused(r) => reader::refusals::number(r) as u32,
+        Ok(()) => 0,
+        Err(r) => reader::refusals::number(r) as u32,
     }
 }
 
@@ -117,13 +116,13 @@ pub fn nelqubat_run(
 }
 
 // What saving said, as a number: 256 times the count of bytes, or the refusal.
-fn saved_number(saved: Saved) -> u32
+fn saved_number(saved: Result<usize, image::Refusal>) -> u32
     requires { SavedFits saved }
     ensures { result ≡ saved_number (written_of saved []) }
 {
     match saved {
-        Saved::Whole(n) => n as u32 * 256,
-        Saved::Unsaved(r) => image::refusal_number(r) as u32,
+        Ok(n) => n as u32 * 256,
+        Err(r) => image::refusal_number(r) as u32,
     }
 }
 
@@ -151,12 +150,12 @@ pub fn nelqubat_back(image: &[u8], out: &mut [u8]) -> u32
     saved_number(image::moves::back(image, out))
 }
 
-fn verdict_number(verdict: image::Verdict) -> u32
+fn verdict_number(verdict: Result<(), image::Refusal>) -> u32
     ensures { result ≡ restore_number verdict }
 {
     match verdict {
-        image::Verdict::Accepted => 0,
-        image::Verdict::Refused(r) => image::refusal_number(r) as u32,
+        Ok(()) => 0,
+        Err(r) => image::refusal_number(r) as u32,
     }
 }
 

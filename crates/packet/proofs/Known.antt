@@ -17,13 +17,14 @@ use Rattle.packet.specs.Numbering.{none_left}
 use Rattle.packet.specs.Table.{TableRow, packet_table, entry_of, in_place, of_size}
 use Rattle.packet.specs.Line.{login_size, login_session, login_number, follows, login_with, login_of, meant_of, packet_by, packet_of}
 use Rattle.packet.specs.declared.Line.{Line}
-use Rattle.packet.specs.declared.table.Entry.{Entry}
 use Rattle.packet.specs.declared.Fault.{Fault}
 use Rattle.packet.specs.declared.Fault.TheVariants.{UnknownLetter, WrongPlace, BadForm}
 use Rattle.packet.specs.declared.Packet.{Packet}
 use Rattle.packet.specs.declared.Packet.TheVariants.{Login, Rejected, Message, Heartbeat, End, Skipped, Refused}
 use Rattle.packet.proofs.Rules.{both, and_both}
 use Rattle.packet.proofs.Ways.{EachRow, exactly}
+use Rattle.packet.specs.declared.table.Meaning.{Meaning}
+use Rattle.packet.specs.declared.table.Place.{Place}
 
 abbrev pub Known : Line → List ℕ → Packet → Type 0
 Known l body (Login n) = (length body ≡ login_size) × (l.logged ≡ false) × (follows l (login_session body) n ≡ true)
@@ -62,7 +63,7 @@ module _ (l : Line) (body : List ℕ) where
     unfolding entry_of
     each-meaning letter [] h = refused UnknownLetter
     each-meaning letter (r ∷ rs) h =
-        both (λ (x : Entry). P (packet_by l body x)) (eqb letter r.letter)
+        both (λ (x : Option (Option ℕ × Meaning × Place)). P (packet_by l body x)) (eqb letter r.letter)
         (λ _. both P (in_place r.place l.logged)
         (λ p. both P (of_size r.size (length body + 1)) (h.0 p) (λ _. refused BadForm))
         (λ _. refused WrongPlace))

@@ -12,12 +12,9 @@ use Rattle.packet.specs.Numbering.{none_left}
 use Rattle.packet.specs.Table.{packet_table, entry_of, takes_number, in_place, of_size}
 use Rattle.packet.specs.Line.{login_session, login_number, follows, login_with, login_of, meant_of, packet_by, packet_of, is_message}
 use Rattle.packet.specs.declared.Line.{Line}
-use Rattle.packet.specs.declared.table.Size.{Size}
 use Rattle.packet.specs.declared.table.Place.{Place}
 use Rattle.packet.specs.declared.table.Meaning.{Meaning}
 use Rattle.packet.specs.declared.table.Meaning.TheVariants as meaning
-use Rattle.packet.specs.declared.table.Entry.{Entry}
-use Rattle.packet.specs.declared.table.Entry.TheVariants.{Row, Missing}
 use Rattle.packet.specs.declared.Packet.{Packet}
 use Rattle.packet.specs.declared.Packet.TheVariants as packets
 use Rattle.packet.specs.declared.Fault.TheVariants as fault
@@ -25,9 +22,9 @@ use Rattle.packet.proofs.Rules.{both, never}
 use Rattle.packet.proofs.Ways.{each_row}
 
 -- a row that takes a number has any size
-abbrev AnySize : Entry → Type 0
-AnySize Missing = Unit
-AnySize (Row size m place) = takes_number m ≡ true → (n : ℕ) → of_size size n ≡ true
+abbrev AnySize : Option (Option ℕ × Meaning × Place) → Type 0
+AnySize None = Unit
+AnySize (Some (size, m, place)) = takes_number m ≡ true → (n : ℕ) → of_size size n ≡ true
 
 any-size : (letter : ℕ) → AnySize (entry_of letter packet_table)
 unfolding packet_table
@@ -71,15 +68,15 @@ module _ (l : Line) (body : List ℕ) where
       by false g = refl
 
 -- THE LAW, of a letter that is listed and of one that is not
-module _ (letter : ℕ) {x : Entry} (e : x ≡ entry_of letter packet_table) (logged : Bool) (next : ℕ) where
-  pub message-missing : x ≡ Missing → (l : Line) (body : List ℕ) → l.logged ≡ logged → l.next ≡ next → false ≡ is_message (packet_of l letter body)
+module _ (letter : ℕ) {x : Option (Option ℕ × Meaning × Place)} (e : x ≡ entry_of letter packet_table) (logged : Bool) (next : ℕ) where
+  pub message-missing : x ≡ None → (l : Line) (body : List ℕ) → l.logged ≡ logged → l.next ≡ next → false ≡ is_message (packet_of l letter body)
   unfolding packet_of
-  message-missing f l body g h = ap (λ (y : Entry). is_message (packet_by l body y)) (sym f ∙ e)
+  message-missing f l body g h = ap (λ (y : Option (Option ℕ × Meaning × Place)). is_message (packet_by l body y)) (sym f ∙ e)
 
-  pub message-row : {size : Size} {m : Meaning} {place : Place} {t p q : Bool} → x ≡ Row size m place → t ≡ takes_number m → p ≡ in_place place logged
+  pub message-row : {size : Option ℕ} {m : Meaning} {place : Place} {t p q : Bool} → x ≡ Some (size, m, place) → t ≡ takes_number m → p ≡ in_place place logged
       → q ≡ none_left next → (l : Line) (body : List ℕ) → l.logged ≡ logged → l.next ≡ next → t && (p && not q) ≡ is_message (packet_of l letter body)
   unfolding packet_of
   message-row {size} {m} {place} f i j k l body g h =
       let w : takes_number m ≡ true → of_size size (length body + 1) ≡ true = λ y. subst AnySize (sym e ∙ f) (any-size letter) y (length body + 1) in
       rw (i, j, k, ← g, ← h) (by_row l body m (in_place place l.logged) (of_size size (length body + 1)) w)
-      ∙ ap (λ (y : Entry). is_message (packet_by l body y)) (sym f ∙ e)
+      ∙ ap (λ (y : Option (Option ℕ × Meaning × Place)). is_message (packet_by l body y)) (sym f ∙ e)

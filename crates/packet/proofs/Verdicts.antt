@@ -18,10 +18,7 @@ use Rattle.packet.specs.Frame.{Framed, short, bad_length, packet, longest_packet
 use Rattle.packet.specs.Table.{packet_table, entry_of, in_place, of_size}
 use Rattle.packet.specs.Line.{login_session, login_number, follows, login_with, login_of, meant_of, packet_by, packet_of}
 use Rattle.packet.specs.declared.Line.{Line}
-use Rattle.packet.specs.declared.table.Size.{Size}
 use Rattle.packet.specs.declared.table.Place.{Place}
-use Rattle.packet.specs.declared.table.Entry.{Entry}
-use Rattle.packet.specs.declared.table.Entry.TheVariants.{Row, Missing}
 use Rattle.packet.specs.declared.table.Meaning.{Meaning}
 use Rattle.packet.specs.declared.table.Meaning.TheVariants as meaning
 use Rattle.packet.specs.declared.Fault.TheVariants.{UnknownLetter, WrongPlace, BadForm, NotNext, NumbersUsedUp}
@@ -77,14 +74,14 @@ module _ (l : Line) (body : List ℕ) where
   -- EACH ANSWER WITH THE ONE CONDITION under which it is given: no two of the conditions hold together
   pub data Verdict (letter : ℕ) : Packet → Type 0 where
     -- 2: letter not in the packet table
-    unknown : entry_of letter packet_table ≡ Missing → Verdict letter (Refused UnknownLetter)
+    unknown : entry_of letter packet_table ≡ None → Verdict letter (Refused UnknownLetter)
     -- 3: packet in the wrong place
-    misplaced : {size : Size} {means : Meaning} {place : Place} → entry_of letter packet_table ≡ Row size means place → in_place place l.logged ≡ false
+    misplaced : {size : Option ℕ} {means : Meaning} {place : Place} → entry_of letter packet_table ≡ Some (size, means, place) → in_place place l.logged ≡ false
         → Verdict letter (Refused WrongPlace)
     -- 4: wrong L
-    missized : {size : Size} {means : Meaning} {place : Place} → entry_of letter packet_table ≡ Row size means place → in_place place l.logged ≡ true
+    missized : {size : Option ℕ} {means : Meaning} {place : Place} → entry_of letter packet_table ≡ Some (size, means, place) → in_place place l.logged ≡ true
         → of_size size (length body + 1) ≡ false → Verdict letter (Refused BadForm)
-    fits : {size : Size} {means : Meaning} {place : Place} {p : Packet} → entry_of letter packet_table ≡ Row size means place → in_place place l.logged ≡ true
+    fits : {size : Option ℕ} {means : Meaning} {place : Place} {p : Packet} → entry_of letter packet_table ≡ Some (size, means, place) → in_place place l.logged ≡ true
         → of_size size (length body + 1) ≡ true → Meant means p → Verdict letter p
 
   -- ---- every packet is judged under its condition
@@ -115,9 +112,9 @@ module _ (l : Line) (body : List ℕ) where
   unfolding packet_of
   packet-verdict letter = by (entry_of letter packet_table) refl
     where
-      by : (x : Entry) → entry_of letter packet_table ≡ x → Verdict letter (packet_by l body x)
-      by Missing e = unknown e
-      by (Row size means place) e = placed (in_place place l.logged) refl
+      by : (x : Option (Option ℕ × Meaning × Place)) → entry_of letter packet_table ≡ x → Verdict letter (packet_by l body x)
+      by None e = unknown e
+      by (Some (size, means, place)) e = placed (in_place place l.logged) refl
         where
           sized : (b : Bool) → of_size size (length body + 1) ≡ b → in_place place l.logged ≡ true
               → Verdict letter (cond b (meant_of l body means) (Refused BadForm))
@@ -141,10 +138,10 @@ module _ (l : Line) (body : List ℕ) where
   Asks meaning.Skipped = Unit
 
   pub record Welcome (letter : ℕ) : Type 0 where
-    pub size : Size
+    pub size : Option ℕ
     pub means : Meaning
     pub place : Place
-    pub listed : entry_of letter packet_table ≡ Row size means place
+    pub listed : entry_of letter packet_table ≡ Some (size, means, place)
     pub placed : in_place place l.logged ≡ true
     pub sized : of_size size (length body + 1) ≡ true
     pub asked : Asks means

@@ -20,13 +20,9 @@ use Rattle.packet.specs.Numbering.{none_left}
 use Rattle.packet.specs.Table.{TableRow, packet_table, entry_of, in_place, of_size}
 use Rattle.packet.specs.Line.{session_size, login_size, login_session, login_number, logged_in, follows, login_with, login_of, BodyFits, meant_of, packet_by, packet_of}
 use Rattle.packet.specs.declared.Line.{Line}
-use Rattle.packet.specs.declared.table.Size.{Size}
-use Rattle.packet.specs.declared.table.Size.TheVariants.{Exact}
 use Rattle.packet.specs.declared.table.Place.{Place}
 use Rattle.packet.specs.declared.table.Meaning.{Meaning}
 use Rattle.packet.specs.declared.table.Meaning.TheVariants as meaning
-use Rattle.packet.specs.declared.table.Entry.{Entry}
-use Rattle.packet.specs.declared.table.Entry.TheVariants.{Row, Missing}
 use Rattle.packet.specs.declared.Fault.TheVariants.{UnknownLetter, WrongPlace, BadForm, NotNext, NumbersUsedUp}
 use Rattle.packet.specs.declared.Packet.{Packet}
 use Rattle.packet.specs.declared.Packet.TheVariants.{Login, Rejected, Message, Refused}
@@ -39,7 +35,7 @@ pub at-letter : {letter k : ℕ} → letter ≡ k → entry_of k packet_table �
 at-letter e = ap (λ (k : ℕ). entry_of k packet_table) (sym e)
 
 pub entry-missing : (letter : ℕ) → (letter ≡ 65 → ⊥) → (letter ≡ 74 → ⊥) → (letter ≡ 83 → ⊥) → (letter ≡ 72 → ⊥) → (letter ≡ 90 → ⊥)
-    → (letter ≡ 43 → ⊥) → (letter ≡ 85 → ⊥) → Missing ≡ entry_of letter packet_table
+    → (letter ≡ 43 → ⊥) → (letter ≡ 85 → ⊥) → None ≡ entry_of letter packet_table
 unfolding entry_of packet_table
 entry-missing letter a j s h z p u =
     rw (ne_eqb letter 65 a, ne_eqb letter 74 j, ne_eqb letter 83 s, ne_eqb letter 72 h, ne_eqb letter 90 z, ne_eqb letter 43 p, ne_eqb letter 85 u)
@@ -49,17 +45,17 @@ abbrev pub EachRow : (TableRow → Type 0) → List TableRow → Type 0
 EachRow P [] = Unit
 EachRow P (r ∷ rs) = P r × EachRow P rs
 
-pub each_row : (P : Entry → Type 0) (letter : ℕ) (rs : List TableRow) → P Missing → EachRow (λ r. P (Row r.size r.meaning r.place)) rs
+pub each_row : (P : Option (Option ℕ × Meaning × Place) → Type 0) (letter : ℕ) (rs : List TableRow) → P None → EachRow (λ r. P (Some (r.size, r.meaning, r.place))) rs
     → P (entry_of letter rs)
 unfolding entry_of
 each_row P letter [] m h = m
 each_row P letter (r ∷ rs) m h = both P (eqb letter r.letter) (λ _. h.0) (λ _. each_row P letter rs m h.1)
 
 -- a size, by the body's length
-pub size-zero : (size : Size) (n k : ℕ) → size ≡ Exact k → k ≡ 0 → false ≡ of_size size (n + 1)
+pub size-zero : (size : Option ℕ) (n k : ℕ) → size ≡ Some k → k ≡ 0 → false ≡ of_size size (n + 1)
 size-zero size n k e z = rw (e, z, ne_eqb (n + 1) 0 (λ f. omega arith))
 
-pub size_exact : (size : Size) (n k : ℕ) → size ≡ Exact k → (k ≡ 0 → ⊥) → eqb n (k - 1) ≡ of_size size (n + 1)
+pub size_exact : (size : Option ℕ) (n k : ℕ) → size ≡ Some k → (k ≡ 0 → ⊥) → eqb n (k - 1) ≡ of_size size (n + 1)
 size_exact size n zero e z = absurd (z refl)
 size_exact size n (suc m) e z = let d : suc m - 1 ≡ m = omega arith in rw (e, add-one, d) (sym (eqb-suc-suc n m))
 
@@ -123,9 +119,9 @@ module _ (l : Line) (body : List ℕ) {m : Meaning} where
 -- ---- a packet
 
 -- a row's size sees to what its meaning reads
-abbrev Fits : ℕ → Entry → Type 0
-Fits n Missing = Unit
-Fits n (Row size m place) = of_size size (n + 1) ≡ true → BodyFits m n
+abbrev Fits : ℕ → Option (Option ℕ × Meaning × Place) → Type 0
+Fits n None = Unit
+Fits n (Some (size, m, place)) = of_size size (n + 1) ≡ true → BodyFits m n
 
 pub exactly : (n k : ℕ) → eqb (n + 1) k ≡ true → n ≡ k - 1
 exactly n k e = omega (arith, eqb-true (n + 1) k e)
@@ -136,15 +132,15 @@ rows_fit n letter =
     each_row (Fits n) letter packet_table tt
     (exactly n 31, (exactly n 2, ((λ _. tt), (exactly n 1, (exactly n 1, ((λ _. tt), ((λ _. tt), tt)))))))
 
-module _ (l : Line) (letter : ℕ) (body : List ℕ) {x : Entry} (e : x ≡ entry_of letter packet_table) where
-  packet-by : {y : Entry} → x ≡ y → packet_by l body y ≡ packet_of l letter body
+module _ (l : Line) (letter : ℕ) (body : List ℕ) {x : Option (Option ℕ × Meaning × Place)} (e : x ≡ entry_of letter packet_table) where
+  packet-by : {y : Option (Option ℕ × Meaning × Place)} → x ≡ y → packet_by l body y ≡ packet_of l letter body
   unfolding packet_of
   packet-by f = ap (packet_by l body) (sym f ∙ e)
 
-  pub judge-missing : x ≡ Missing → Refused UnknownLetter ≡ packet_of l letter body
+  pub judge-missing : x ≡ None → Refused UnknownLetter ≡ packet_of l letter body
   judge-missing f = packet-by f
 
-  module _ {size : Size} {m : Meaning} {place : Place} (f : x ≡ Row size m place) {r : Bool} (g : r ≡ in_place place l.logged) where
+  module _ {size : Option ℕ} {m : Meaning} {place : Place} (f : x ≡ Some (size, m, place)) {r : Bool} (g : r ≡ in_place place l.logged) where
     pub judge-place : not r ≡ true → Refused WrongPlace ≡ packet_of l letter body
     judge-place t = let y : in_place place l.logged ≡ false = not_call r _ g t in rw y at (packet-by f)
 

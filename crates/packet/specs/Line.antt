@@ -9,13 +9,12 @@ use Rattle.field.specs.Limits.{highest_number}
 use Rattle.packet.specs.Numbering.{first_number, none_left, number_after}
 use Rattle.packet.specs.Table.{packet_table, entry_of, in_place, of_size}
 use Rattle.packet.specs.declared.Line.{Line}
-use Rattle.packet.specs.declared.table.Entry.{Entry}
-use Rattle.packet.specs.declared.table.Entry.TheVariants.{Row, Missing}
 use Rattle.packet.specs.declared.table.Meaning.{Meaning}
 use Rattle.packet.specs.declared.table.Meaning.TheVariants as meaning
 use Rattle.packet.specs.declared.Fault.TheVariants.{UnknownLetter, WrongPlace, BadForm, NotNext, NumbersUsedUp}
 use Rattle.packet.specs.declared.Packet.{Packet}
 use Rattle.packet.specs.declared.Packet.TheVariants.{Login, Rejected, Message, Heartbeat, End, Skipped, Refused}
+use Rattle.packet.specs.declared.table.Place.{Place}
 
 -- ---- lines
 
@@ -86,9 +85,9 @@ meant_of l body meaning.EndOfSession = End
 meant_of l body meaning.Skipped = Skipped
 
 -- the letter, the place, L
-abbrev pub packet_by : Line → List ℕ → Entry → Packet
-packet_by l body Missing = Refused UnknownLetter
-packet_by l body (Row size means place) =
+abbrev pub packet_by : Line → List ℕ → Option (Option ℕ × Meaning × Place) → Packet
+packet_by l body None = Refused UnknownLetter
+packet_by l body (Some (size, means, place)) =
     cond (in_place place l.logged)
     (cond (of_size size (length body + 1)) (meant_of l body means) (Refused BadForm))
     (Refused WrongPlace)

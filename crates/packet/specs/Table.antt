@@ -1,40 +1,39 @@
 -- The packet table of document 01, and what a row of it asks.
 -- Assumes nothing.
 use Rattle.std.specs.Prelude.{ℕ, Bool, true, false, cond, not, List, [], ◌∷◌, eqb}
-use Rattle.packet.specs.declared.table.Size.{Size}
-use Rattle.packet.specs.declared.table.Size.TheVariants.{Exact, Any}
 use Rattle.packet.specs.declared.table.Meaning.{Meaning}
 use Rattle.packet.specs.declared.table.Meaning.TheVariants.{LoginAccepted, LoginRejected, Message, Heartbeat, EndOfSession, Skipped}
 use Rattle.packet.specs.declared.table.Place.{Place}
 use Rattle.packet.specs.declared.table.Place.TheVariants.{BeforeLogin, AfterLogin, Anywhere}
-use Rattle.packet.specs.declared.table.Entry.{Entry}
-use Rattle.packet.specs.declared.table.Entry.TheVariants.{Row, Missing}
+use Rattle.std.specs.Prelude.{Option}
+use Rattle.std.specs.Prelude.{Some}
+use Rattle.std.specs.Prelude.{None}
 
 pub record TableRow : Type 0 where
   pub letter : ℕ
-  pub size : Size
+  pub size : Option ℕ
   pub meaning : Meaning
   pub place : Place
 
-abbrev pub row : ℕ → Size → Meaning → Place → TableRow
+abbrev pub row : ℕ → Option ℕ → Meaning → Place → TableRow
 row letter size meaning place = record { letter = letter; size = size; meaning = meaning; place = place }
 
 -- the letters A, J, S, H, Z, + and U
 unfoldable pub packet_table : List TableRow
 packet_table =
-    row 65 (Exact 31) LoginAccepted BeforeLogin
-    ∷ row 74 (Exact 2) LoginRejected BeforeLogin
-    ∷ row 83 Any Message AfterLogin
-    ∷ row 72 (Exact 1) Heartbeat Anywhere
-    ∷ row 90 (Exact 1) EndOfSession AfterLogin
-    ∷ row 43 Any Skipped Anywhere
-    ∷ row 85 Any Skipped Anywhere
+    row 65 (Some 31) LoginAccepted BeforeLogin
+    ∷ row 74 (Some 2) LoginRejected BeforeLogin
+    ∷ row 83 None Message AfterLogin
+    ∷ row 72 (Some 1) Heartbeat Anywhere
+    ∷ row 90 (Some 1) EndOfSession AfterLogin
+    ∷ row 43 None Skipped Anywhere
+    ∷ row 85 None Skipped Anywhere
     ∷ []
 
 -- a letter's row
-unfoldable pub entry_of : ℕ → List TableRow → Entry
-entry_of letter [] = Missing
-entry_of letter (r ∷ rs) = cond (eqb letter r.letter) (Row r.size r.meaning r.place) (entry_of letter rs)
+unfoldable pub entry_of : ℕ → List TableRow → Option (Option ℕ × Meaning × Place)
+entry_of letter [] = None
+entry_of letter (r ∷ rs) = cond (eqb letter r.letter) (Some (r.size, r.meaning, r.place)) (entry_of letter rs)
 
 -- does a packet of that meaning take a number?
 abbrev pub takes_number : Meaning → Bool
@@ -52,6 +51,6 @@ in_place AfterLogin logged = logged
 in_place Anywhere logged = true
 
 -- is L the size?
-abbrev pub of_size : Size → ℕ → Bool
-of_size (Exact n) L = eqb L n
-of_size Any L = true
+abbrev pub of_size : Option ℕ → ℕ → Bool
+of_size (Some n) L = eqb L n
+of_size None L = true

@@ -7,7 +7,7 @@ ghost use Rattle.packet.specs.Frame.{held_size, room_for, frame, front_of};
 ghost use Rattle.packet.specs.Line.{session_size, login_size, login_session, fresh_line, waiting, logged_in, follows, login_of, BodyFits, meant_of, packet_of, is_message};
 ghost use Rattle.packet.specs.declared.Line.{Line};
 
-use crate::table::{Entry, Meaning};
+use crate::table::Meaning;
 
 pub mod numbering;
 mod table;
@@ -161,8 +161,8 @@ pub fn judge(line: Line, letter: u8, body: &[u8]) -> Packet
     ensures { result ≡ packet_of line letter body.now }
 {
     match table::row_of(letter) {
-        Entry::Missing => Packet::Refused(Fault::UnknownLetter),
-        Entry::Row(size, meaning, place) => {
+        None => Packet::Refused(Fault::UnknownLetter),
+        Some((size, meaning, place)) => {
             if !table::in_place(place, line.logged) {
                 return Packet::Refused(Fault::WrongPlace);
             }
@@ -179,8 +179,8 @@ pub fn is_message(logged: bool, next: u64, letter: u8) -> bool
     ensures { (l : Line) (body : List ℕ) → l.logged ≡ logged → l.next ≡ next → result ≡ is_message (packet_of l letter body) }
 {
     match table::row_of(letter) {
-        Entry::Missing => false,
-        Entry::Row(_, meaning, place) => {
+        None => false,
+        Some((_, meaning, place)) => {
             table::takes_number(meaning)
                 & (table::in_place(place, logged) & !numbering::none_left(next))
         }

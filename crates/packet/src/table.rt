@@ -2,12 +2,6 @@
 ghost use Rattle.std.specs.Prelude.{◌≡◌, ◌+◌, length};
 ghost use Rattle.packet.specs.Table.{packet_table, entry_of, takes_number, in_place, of_size};
 
-#[derive(Clone, Copy)]
-pub enum Size {
-    Exact(usize),
-    Any,
-}
-
 #[derive(Clone, Copy, PartialEq, Eq)]
 pub enum Meaning {
     LoginAccepted,
@@ -25,23 +19,18 @@ pub enum Place {
     Anywhere,
 }
 
-#[derive(Clone, Copy)]
-pub enum Entry {
-    Row(Size, Meaning, Place),
-    Missing,
-}
-
-pub fn row_of(letter: u8) -> Entry
+// The length, one more than the body's, that a packet with the letter must have, or none where any will do; what it means; and where it may stand.
+pub fn row_of(letter: u8) -> Option<(Option<usize>, Meaning, Place)>
     ensures { result ≡ entry_of letter packet_table }
 {
     match letter {
-        b'A' => Entry::Row(Size::Exact(31), Meaning::LoginAccepted, Place::BeforeLogin),
-        b'J' => Entry::Row(Size::Exact(2), Meaning::LoginRejected, Place::BeforeLogin),
-        b'S' => Entry::Row(Size::Any, Meaning::Message, Place::AfterLogin),
-        b'H' => Entry::Row(Size::Exact(1), Meaning::Heartbeat, Place::Anywhere),
-        b'Z' => Entry::Row(Size::Exact(1), Meaning::EndOfSession, Place::AfterLogin),
-        b'+' | b'U' => Entry::Row(Size::Any, Meaning::Skipped, Place::Anywhere),
-        _ => Entry::Missing,
+        b'A' => Some((Some(31), Meaning::LoginAccepted, Place::BeforeLogin)),
+        b'J' => Some((Some(2), Meaning::LoginRejected, Place::BeforeLogin)),
+        b'S' => Some((None, Meaning::Message, Place::AfterLogin)),
+        b'H' => Some((Some(1), Meaning::Heartbeat, Place::Anywhere)),
+        b'Z' => Some((Some(1), Meaning::EndOfSession, Place::AfterLogin)),
+        b'+' | b'U' => Some((None, Meaning::Skipped, Place::Anywhere)),
+        _ => None,
     }
 }
 
@@ -64,12 +53,12 @@ pub fn in_place(place: Place, logged: bool) -> bool
 }
 
 // Is L, one more than the body's length, of that size?
-pub fn of_size(size: Size, body: &[u8]) -> bool
+pub fn of_size(size: Option<usize>, body: &[u8]) -> bool
     ensures { result ≡ of_size size (length body.now + 1) }
 {
     match size {
-        Size::Any => true,
-        Size::Exact(n) => {
+        None => true,
+        Some(n) => {
             if n == 0 {
                 return false;
             }

@@ -15,7 +15,6 @@ use Rattle.packet.specs.Session as packets
 use Rattle.record.specs.Places.{record_size}
 use Rattle.record.specs.Record.{record_of}
 use Rattle.record.specs.declared.Held.{Held}
-use Rattle.record.specs.declared.Taken.TheVariants as taken
 use Rattle.message.specs.declared.Message.{Message}
 use Rattle.reader.specs.Refusals.{named}
 use Rattle.reader.specs.Handles.{message_in, kind_in, answer_for, answer_in}
@@ -26,6 +25,8 @@ use Rattle.reader.specs.declared.Event.TheVariants as event
 use Rattle.reader.specs.declared.StepAnswer.{StepAnswer}
 use Rattle.reader.specs.declared.StepAnswer.TheVariants as answer
 use Rattle.reader.specs.declared.told.Heard.{Heard}
+use Rattle.std.specs.Prelude.{None}
+use Rattle.std.specs.Prelude.{Some}
 
 -- ---- what stands in event memory
 
@@ -39,12 +40,12 @@ login-heard memory session n t l e f g =
     rw (s, f, g)
 
 module _ (memory : List ℕ) (x : Held) (e : x ≡ record_of memory) where
-  pub message-heard : (m : Message) → x.taken ≡ taken.Is m
+  pub message-heard : (m : Message) → x.taken ≡ Some m
       → read_back (record { answer = answer.Event (event.Message m); texts = record { session = no_session; message = x.texts } })
       ≡ beside (message_in (record_of memory).taken (record_of memory).texts)
   message-heard m f = rw (← e, f)
 
-  pub nothing-heard : (h : Heard) → x.taken ≡ taken.NoRecord → h ≡ quiet_heard answer.More
+  pub nothing-heard : (h : Heard) → x.taken ≡ None → h ≡ quiet_heard answer.More
       → read_back h ≡ beside (message_in (record_of memory).taken (record_of memory).texts)
   nothing-heard h f g = rw (← e, f, g)
 

@@ -20,8 +20,6 @@ use Rattle.message.specs.Test.{tested_as, tested, quote_letters, quote_length}
 use Rattle.message.specs.declared.Message.{Message}
 use Rattle.message.specs.declared.Texts.{Texts}
 use Rattle.message.specs.declared.Reading.{Reading}
-use Rattle.message.specs.declared.Answer.{Answer}
-use Rattle.message.specs.declared.Answer.TheVariants as answers
 use Rattle.message.specs.declared.Refusal as message_refusal
 use Rattle.message.specs.declared.Refusal.TheVariants as message_refusals
 use Rattle.message.proofs.Tested.{test-empty, test-some}
@@ -36,8 +34,6 @@ use Rattle.table.specs.Wire.{placed}
 use Rattle.table.specs.declared.Board.{Board}
 use Rattle.table.specs.declared.Refusal as table_refusal
 use Rattle.table.specs.declared.Refusal.TheVariants as table_refusals
-use Rattle.table.specs.declared.Verdict as table_verdict
-use Rattle.table.specs.declared.Verdict.TheVariants as verdict
 use Rattle.table.specs.declared.wire.Placed.{Placed}
 use Rattle.table.specs.declared.wire.Placed.TheVariants.{Kept, Added, Refused}
 use Rattle.table.proofs.Ways.{fitting-lent}
@@ -51,6 +47,10 @@ use Rattle.reader.specs.Deliver.{Table, table_of, table_by, Said, said, settled_
 use Rattle.reader.specs.Calls.{verdict_number}
 use Rattle.reader.specs.Handles.{event_number, told_number, Left, left}
 use Rattle.reader.specs.Shapes.{Going, Ready, closed_as, applied_as, tried_as}
+use Rattle.std.specs.Prelude.{Err}
+use Rattle.std.specs.Prelude.{Ok}
+use Rattle.std.specs.Prelude.{Result}
+use Rattle.message.specs.declared.Refusal.{Refusal}
 
 -- ---- a handle as head and places
 
@@ -82,18 +82,18 @@ Passed r = (m : Message) × (t : Texts) × (r ≡ accepted m t)
 passed : (r : Reading) → tested r ≡ 0 → Passed r
 passed r = by r.answer refl
   where
-    by : (a : Answer) → r.answer ≡ a → tested_as a ≡ 0 → Passed r
-    by (answers.Is m) f g = (m, r.texts, λ i. record { answer = f i; texts = r.texts })
-    by (answers.Refused x) f g = absurd (read_some x g)
+    by : (a : Result Message Refusal) → r.answer ≡ a → tested_as a ≡ 0 → Passed r
+    by (Ok m) f g = (m, r.texts, λ i. record { answer = f i; texts = r.texts })
+    by (Err x) f g = absurd (read_some x g)
 
 pub tested_low : (bs : List ℕ) {n : ℕ} → n ≡ tested (read_of bs) → n ≤ 12
 tested_low bs e = rw e (by (read_of bs).answer)
   where
-    by : (a : Answer) → tested_as a ≤ 12
-    by (answers.Is m) = omega arith
-    by (answers.Refused message_refusals.UnknownLetter) = omega arith
-    by (answers.Refused message_refusals.WrongLength) = omega arith
-    by (answers.Refused message_refusals.BadField) = omega arith
+    by : (a : Result Message Refusal) → tested_as a ≤ 12
+    by (Ok m) = omega arith
+    by (Err message_refusals.UnknownLetter) = omega arith
+    by (Err message_refusals.WrongLength) = omega arith
+    by (Err message_refusals.BadField) = omega arith
 
 -- ---- what a message does, by its reading
 
@@ -101,9 +101,9 @@ denied-is : (t : Table) (body : List ℕ) {n : ℕ} → n ≡ tested (read_of bo
 unfolding deliver
 denied-is t body {n} e d = by (read_of body).answer (λ z. d (e ∙ z)) ∙ ap (λ (k : ℕ). denied k t) (sym e)
   where
-    by : (a : Answer) → (tested_as a ≡ 0 → ⊥) → heard t (read_of body).texts a ≡ denied (tested_as a) t
-    by (answers.Is m) h = absurd (h refl)
-    by (answers.Refused x) h = refl
+    by : (a : Result Message Refusal) → (tested_as a ≡ 0 → ⊥) → heard t (read_of body).texts a ≡ denied (tested_as a) t
+    by (Ok m) h = absurd (h refl)
+    by (Err x) h = refl
 
 heard-is : (b : Board) (mem : Memories) (body : List ℕ) (m : Message) (t : Texts) → LentFitting b.rows mem → read_of body ≡ accepted m t
     → deliver (table_of b mem) body ≡ settled (said m t) (effect b m t mem)
@@ -199,12 +199,12 @@ module _ (handle : List ℕ) (table : Memories) (g : Going handle table) (lent :
         ∙ by effect_is.outcome.applied.verdict
         ∙ ap (λ (x : Delivered Table Said). tried_as x handle) (sym heard-here)
       where
-        by : (v : table_verdict.Verdict)
+        by : (v : Result (Unit {0}) table_refusal.Refusal)
             → (let t = table_by effect_is in
             left (verdict_number v) (handle_bytes (with_board t.board (head_of handle)) (places_in handle)) t.memory
             ≡ tried_as (settled_by v (said is-message.0 is-message.1) t) handle)
-        by verdict.Accepted = refl
-        by (verdict.Refused x) = refl
+        by (Ok u) = refl
+        by (Err x) = refl
 
 -- ---- counted, or refused
 
@@ -213,13 +213,13 @@ abbrev DeniedSome : Delivered Table Said → Type 0
 DeniedSome (done x t) = Unit
 DeniedSome (denied n t) = n ≡ 0 → ⊥
 
-settled-some : (x : Said) (v : table_verdict.Verdict) (t : Table) → DeniedSome (settled_by v x t)
-settled-some x verdict.Accepted t = tt
-settled-some x (verdict.Refused r) t = table-some r
+settled-some : (x : Said) (v : Result (Unit {0}) table_refusal.Refusal) (t : Table) → DeniedSome (settled_by v x t)
+settled-some x (Ok u) t = tt
+settled-some x (Err r) t = table-some r
 
-heard-some : (t : Table) (texts : Texts) (a : Answer) → DeniedSome (heard t texts a)
-heard-some t texts (answers.Refused r) = read_some r
-heard-some t texts (answers.Is m) =
+heard-some : (t : Table) (texts : Texts) (a : Result Message Refusal) → DeniedSome (heard t texts a)
+heard-some t texts (Err r) = read_some r
+heard-some t texts (Ok m) =
     let o = apply_of t.board m texts t.memory in
     settled-some (said m texts) o.outcome.applied.verdict (table_by o)
 

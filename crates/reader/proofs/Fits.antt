@@ -18,8 +18,6 @@ use Rattle.message.specs.Message.{accepted, read_of, texts_with}
 use Rattle.message.specs.declared.Message.{Message}
 use Rattle.message.specs.declared.Message.TheVariants as message
 use Rattle.message.specs.declared.Texts.{Texts}
-use Rattle.message.specs.declared.Answer as answers
-use Rattle.message.specs.declared.Answer.TheVariants as read
 use Rattle.message.specs.declared.Reading.{Reading}
 use Rattle.message.specs.declared.Refusal as message_refusal
 use Rattle.message.specs.declared.Refusal.TheVariants as message_refusals
@@ -40,8 +38,6 @@ use Rattle.packet.specs.declared.Fault.{Fault}
 use Rattle.packet.specs.declared.Fault.TheVariants as fault
 use Rattle.packet.specs.declared.Packet.{Packet}
 use Rattle.packet.specs.declared.Packet.TheVariants as packet
-use Rattle.packet.specs.declared.table.Entry.{Entry}
-use Rattle.packet.specs.declared.table.Entry.TheVariants as entry
 use Rattle.packet.specs.declared.table.Meaning.{Meaning}
 use Rattle.packet.specs.declared.table.Meaning.TheVariants as meaning
 use Rattle.packet.proofs.Rules.{both}
@@ -56,8 +52,6 @@ use Rattle.table.specs.Places.{board_at, board_after}
 use Rattle.table.specs.declared.Board.{Board}
 use Rattle.table.specs.declared.Refusal as table_refusal
 use Rattle.table.specs.declared.Refusal.TheVariants as table_refusals
-use Rattle.table.specs.declared.Verdict.{Verdict}
-use Rattle.table.specs.declared.Verdict.TheVariants as verdict
 use Rattle.table.proofs.Exactly.{exactly-board, refused-leaves, apply-few}
 use Rattle.record.specs.Record.{Roomy}
 use Rattle.record.proofs.Typed.{roomy}
@@ -66,6 +60,12 @@ use Rattle.reader.specs.Deliver.{Table, table_of, table_by, Said, said, settled_
 use Rattle.reader.specs.View.{held_in}
 use Rattle.reader.specs.declared.Refusal.{Refusal}
 use Rattle.reader.specs.declared.Refusal.TheVariants as refusal
+use Rattle.std.specs.Prelude.{Err}
+use Rattle.std.specs.Prelude.{Ok}
+use Rattle.std.specs.Prelude.{Result}
+use Rattle.std.specs.Prelude.{Some}
+use Rattle.std.specs.Prelude.{None}
+use Rattle.packet.specs.declared.table.Place.{Place}
 
 -- ---- numbers of refusals
 
@@ -191,25 +191,25 @@ DeliveredFits (done x t) = EventFits (packets.message x) × BoardFits t.board
 DeliveredFits (denied n t) = Numbered n × BoardFits t.board
 
 module _ (t : Table) (h : BoardFits t.board) where
-  settled-fits : (m : Message) (texts : Texts) (v : Verdict) (b : Board) (l : Memories)
+  settled-fits : (m : Message) (texts : Texts) (v : Result (Unit {0}) table_refusal.Refusal) (b : Board) (l : Memories)
       → (apply_of t.board m texts t.memory).outcome ≡ tables.outcome (record { board = b; verdict = v }) l.table
       → EventFits (packets.message (said m texts)) → DeliveredFits (settled_by v (said m texts) (table_of b l))
   unfolding board_after
-  settled-fits m texts verdict.Accepted b l e f =
+  settled-fits m texts (Ok u) b l e f =
       let w : Found = found_of (look t.board m t.memory) in
       let same : b ≡ board_at t.board m w = exactly-board t.board m texts t.memory b l.table e in
       let few : b.rows ≤ most_rows
       = subst (λ (o : tables.Outcome). o.applied.board.rows ≤ most_rows) e (apply-few t.board t.memory h.rows m texts) in
       (f, subst BoardFits (sym same) (board-fits t.board m texts w (subst (λ (x : Board). x.rows ≤ most_rows) same few) h f.0))
-  settled-fits m texts (verdict.Refused r) b l e f = (
+  settled-fits m texts (Err r) b l e f = (
     table-numbered r,
     subst BoardFits (sym (refused-leaves t.board m texts t.memory r b l.table e).0) h,
   )
 
-  heard-fits : (texts : Texts) (a : answers.Answer) → ((m : Message) → a ≡ read.Is m → EventFits (packets.message (said m texts)))
+  heard-fits : (texts : Texts) (a : Result Message message_refusal.Refusal) → ((m : Message) → a ≡ Ok m → EventFits (packets.message (said m texts)))
       → DeliveredFits (heard t texts a)
-  heard-fits texts (read.Refused r) f = (message-numbered r, h)
-  heard-fits texts (read.Is m) f =
+  heard-fits texts (Err r) f = (message-numbered r, h)
+  heard-fits texts (Ok m) f =
       let o = apply_of t.board m texts t.memory in
       settled-fits m texts o.outcome.applied.verdict o.outcome.applied.board (table_by o).memory refl (f m refl)
 
@@ -245,9 +245,9 @@ module _ (l : Line) (body : List ℕ) where
   meant-reasoned meaning.EndOfSession = tt
   meant-reasoned meaning.Skipped = tt
 
-  by-reasoned : (x : Entry) → Reasoned body (packet_by l body x)
-  by-reasoned entry.Missing = tt
-  by-reasoned (entry.Row size means place) =
+  by-reasoned : (x : Option (Option ℕ × Meaning × Place)) → Reasoned body (packet_by l body x)
+  by-reasoned None = tt
+  by-reasoned (Some (size, means, place)) =
       both (Reasoned body) (in_place place l.logged)
       (λ _. both (Reasoned body) (of_size size (length body + 1)) (λ _. meant-reasoned means) (λ _. tt)) (λ _. tt)
 

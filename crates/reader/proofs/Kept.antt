@@ -30,16 +30,11 @@ use Rattle.table.specs.Board.{fresh_board, fits, outcome, beside, start_of}
 use Rattle.table.specs.declared.Applied.{Applied}
 use Rattle.table.specs.declared.Board.{Board}
 use Rattle.table.specs.declared.Refusal as table_refusal
-use Rattle.table.specs.declared.Verdict.TheVariants as table
 use Rattle.image.specs.Save.{saving, save_of}
 use Rattle.image.specs.Restore.{restoring, restore_of}
 use Rattle.image.specs.declared.Header.{Header}
 use Rattle.image.specs.declared.Refusal.TheVariants as images
-use Rattle.image.specs.declared.Saved.{Saved}
-use Rattle.image.specs.declared.Saved.TheVariants as saved
 use Rattle.image.specs.declared.Restored as image
-use Rattle.image.specs.declared.Verdict as image_verdict
-use Rattle.image.specs.declared.Verdict.TheVariants as verdict
 use Rattle.image.proofs.Rounds.{restored-good}
 use Rattle.reader.specs.Refusals.{refusal_number, standing, standing_refusals, named_in, named}
 use Rattle.reader.specs.View.{reader_with, held_of, state_of, seen, still_of, ready_of}
@@ -51,7 +46,10 @@ use Rattle.reader.specs.declared.Refusal.{Refusal}
 use Rattle.reader.specs.declared.Refusal.TheVariants.{HighCeiling}
 use Rattle.reader.specs.declared.Reader.{Reader}
 use Rattle.reader.specs.declared.StepAnswer.TheVariants as answer
-use Rattle.reader.specs.declared.StartAnswer.TheVariants as started
+use Rattle.std.specs.Prelude.{Err}
+use Rattle.std.specs.Prelude.{Ok}
+use Rattle.std.specs.Prelude.{Result}
+use Rattle.image.specs.declared.Refusal as image_refusal
 
 -- ---- what is held
 
@@ -305,12 +303,12 @@ module _ (r : Reader) (memory : Memories) (piece : List ℕ) (e : may_step r mem
 
 module _ (memory after : Memories) (a : Applied) (l : Line) (r : Reader) (e : beside after.index (outcome a after.table) ≡ start_of memory)
     (i : l ≡ fresh_line) (f : r ≡ ready_of l a.board) where
-  pub start-ready : a.verdict ≡ table.Accepted → Starting memory (record { reader = r; answer = started.Ready }) after
+  pub start-ready : a.verdict ≡ Ok (tt {0}) → Starting memory (record { reader = r; answer = (Ok (tt {0})) }) after
   unfolding start_all
   start-ready g = rw (f, i, ← e, g)
 
-  pub start-refused : {d : table_refusal.Refusal} (x : Refusal) → a.verdict ≡ table.Refused d → refusal_number x ≡ tables.refusal_number d
-      → Starting memory (record { reader = r; answer = started.Refused x }) after
+  pub start-refused : {d : table_refusal.Refusal} (x : Refusal) → a.verdict ≡ Err d → refusal_number x ≡ tables.refusal_number d
+      → Starting memory (record { reader = r; answer = Err x }) after
   unfolding start_all
   start-refused x g h = rw (f, i, ← e, g, h)
 
@@ -321,11 +319,11 @@ module _ (r : Reader) (memory out : List ℕ) {w : Bool} (l : length r.held ≡ 
   e : w ≡ within_limits r memory
   e = limits_of r memory l k
 
-  pub save-unfit : not w ≡ true → Saves r memory out (saved.Unsaved images.Unfit) out
+  pub save-unfit : not w ≡ true → Saves r memory out (Err images.Unfit) out
   unfolding save_all
   save-unfit f = rw (not_call w (within_limits r memory) e f)
 
-  pub save-goes : (a : Saved) (after : List ℕ) → not w ≡ false → saving a after ≡ save_of (header_of r) memory out → Saves r memory out a after
+  pub save-goes : (a : Result ℕ image_refusal.Refusal) (after : List ℕ) → not w ≡ false → saving a after ≡ save_of (header_of r) memory out → Saves r memory out a after
   unfolding save_all
   save-goes a after f g = rw (not-not-call w (within_limits r memory) e f) (ap written_by g)
 
@@ -338,7 +336,7 @@ module _ (h : Header) where
 
 module _ (bytes : List ℕ) (memory : Memories) {w : Bool} (told : w ≡ is_index memory.index) where
   pub restore-unfit : (l : Line) (b : Board) (r : Reader) → not w ≡ true → l ≡ fresh_line → b ≡ fresh_board → r ≡ ready_of l b
-      → Restores bytes memory (record { reader = r; verdict = verdict.Refused images.Unfit }) memory
+      → Restores bytes memory (record { reader = r; verdict = Err images.Unfit }) memory
   unfolding restore_all
   restore-unfit l b r n f g e = rw (← told, not-true w n, e, f, g)
 
@@ -352,7 +350,7 @@ module _ (bytes : List ℕ) (memory : Memories) {w : Bool} (told : w ≡ is_inde
 
   -- the rows of an accepted image have room in both memories
   pub restored-room : (after : List ℕ) (b : image.Restored) → not w ≡ false → restoring b after ≡ restore_of bytes memory.table
-      → b.verdict ≡ verdict.Accepted → LentFitting b.header.board.rows (memories after memory.index)
+      → b.verdict ≡ Ok (tt {0}) → LentFitting b.header.board.rows (memories after memory.index)
   restored-room after b y e v =
-      let g = restored-good bytes memory.table after b.header (sym e ∙ ap (λ (x : image_verdict.Verdict). restoring (record { header = b.header; verdict = x }) after) v) in
+      let g = restored-good bytes memory.table after b.header (sym e ∙ ap (λ (x : Result (Unit {0}) image_refusal.Refusal). restoring (record { header = b.header; verdict = x }) after) v) in
       ((g.sound.sized, g.sound.few), eqb-true (length memory.index) index_size (sym told ∙ not-false w y))

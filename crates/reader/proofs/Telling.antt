@@ -14,8 +14,6 @@ use Rattle.field.proofs.Numbers.{part_bytes}
 use Rattle.message.specs.Message.{read_of, accepted}
 use Rattle.message.specs.declared.Reading.{Reading}
 use Rattle.message.specs.Test.{tested}
-use Rattle.message.specs.declared.Answer.{Answer}
-use Rattle.message.specs.declared.Answer.TheVariants as read
 use Rattle.message.specs.declared.Texts.{Texts}
 use Rattle.packet.specs.Frame.{Framed, short, bad_length, packet, frame, front_of}
 use Rattle.packet.specs.Line.{packet_of}
@@ -30,8 +28,6 @@ use Rattle.packet.proofs.Known.{Known, packet-known, follows-number}
 use Rattle.packet.proofs.Mend.{lies-bad, lies_whole}
 use Rattle.packet.proofs.Seen.{step-short}
 use Rattle.table.specs.Board.{apply_of}
-use Rattle.table.specs.declared.Verdict as table_verdict
-use Rattle.table.specs.declared.Verdict.TheVariants as verdict
 use Rattle.record.specs.Places.{record_size}
 use Rattle.record.specs.Record.{read_to}
 use Rattle.handle.specs.Handle.{handle_size, head_of, handle_bytes, places_in}
@@ -46,6 +42,12 @@ use Rattle.reader.specs.Handles.{head_in, Left, left, login_bytes, event_number,
 use Rattle.reader.specs.Shapes.{Ready, session_at, step_on, gone_on, message_at, told_by, Tellable}
 use Rattle.reader.proofs.Fits.{numbered-low, SessionFits, Reasoned, reasoned, VerdictFits, packet-fits, StateFits}
 use Rattle.reader.proofs.Back.{state-head}
+use Rattle.std.specs.Prelude.{Err}
+use Rattle.std.specs.Prelude.{Ok}
+use Rattle.std.specs.Prelude.{Result}
+use Rattle.message.specs.declared.Refusal.{Refusal}
+use Rattle.table.specs.declared.Refusal as table_refusal
+use Rattle.message.specs.declared.Message.{Message}
 
 -- ---- the ways through telling
 
@@ -84,13 +86,13 @@ VerdictTells body (finish e s) = Tells body s e
 VerdictTells body (refuse n s) = Unit
 
 module _ (l : Line) (t : Table) (body : List ℕ) where
-  settled-tells : (x : Said) (v : table_verdict.Verdict) (t' : Table) → read_of body ≡ accepted x.message x.texts → VerdictTells body (delivered l (settled_by v x t'))
-  settled-tells x verdict.Accepted t' e = e
-  settled-tells x (verdict.Refused r) t' e = tt
+  settled-tells : (x : Said) (v : Result (Unit {0}) table_refusal.Refusal) (t' : Table) → read_of body ≡ accepted x.message x.texts → VerdictTells body (delivered l (settled_by v x t'))
+  settled-tells x (Ok u) t' e = e
+  settled-tells x (Err r) t' e = tt
 
-  heard-tells : (a : Answer) → (read_of body).answer ≡ a → VerdictTells body (delivered l (heard t (read_of body).texts a))
-  heard-tells (read.Refused r) e = tt
-  heard-tells (read.Is m) e =
+  heard-tells : (a : Result Message Refusal) → (read_of body).answer ≡ a → VerdictTells body (delivered l (heard t (read_of body).texts a))
+  heard-tells (Err r) e = tt
+  heard-tells (Ok m) e =
       let texts : Texts = (read_of body).texts in
       let o = apply_of t.board m texts t.memory in
       settled-tells (said m texts) o.outcome.applied.verdict (table_by o) (λ i. record { answer = e i; texts = texts })

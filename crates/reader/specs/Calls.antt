@@ -9,8 +9,6 @@ use Rattle.packet.specs.Line.{fresh_line}
 use Rattle.table.specs.Board as tables
 use Rattle.table.specs.Memory.{Memories}
 use Rattle.table.specs.Board.{Indexed, start_of}
-use Rattle.table.specs.declared.Verdict.{Verdict}
-use Rattle.table.specs.declared.Verdict.TheVariants.{Accepted, Refused}
 use Rattle.reader.specs.Refusals.{refusal_number}
 use Rattle.reader.specs.Deliver.{Table, Said, deliver, table_by}
 use Rattle.reader.specs.View.{no_text, state_of, Seen, seen_of, seen}
@@ -18,9 +16,12 @@ use Rattle.reader.specs.Limits.{may_step}
 use Rattle.reader.specs.declared.Refusal.TheVariants.{Unfit}
 use Rattle.reader.specs.declared.Reader.{Reader}
 use Rattle.reader.specs.declared.Stepped.{Stepped}
-use Rattle.reader.specs.declared.StartAnswer.{StartAnswer}
-use Rattle.reader.specs.declared.StartAnswer.TheVariants as answer
 use Rattle.reader.specs.declared.Started.{Started}
+use Rattle.std.specs.Prelude.{Err}
+use Rattle.std.specs.Prelude.{Ok}
+use Rattle.std.specs.Prelude.{Result}
+use Rattle.table.specs.declared.Refusal.{Refusal}
+use Rattle.reader.specs.declared.Refusal as reader_refusal
 
 -- ---- A STEP
 
@@ -77,13 +78,13 @@ pub record Begun : Type 0 where
   pub used : ℕ
   pub refusal : ℕ
 
-abbrev pub verdict_number : Verdict → ℕ
-verdict_number Accepted = 0
-verdict_number (Refused r) = tables.refusal_number r
+abbrev pub verdict_number : Result (Unit {0}) Refusal → ℕ
+verdict_number (Ok u) = 0
+verdict_number (Err r) = tables.refusal_number r
 
-abbrev pub start_number : StartAnswer → ℕ
-start_number answer.Ready = 0
-start_number (answer.Refused r) = refusal_number r
+abbrev pub start_number : Result (Unit {0}) reader_refusal.Refusal → ℕ
+start_number (Ok u) = 0
+start_number (Err r) = refusal_number r
 
 abbrev pub begun_of : Started → Memories → Begun
 begun_of s memory =

@@ -8,8 +8,6 @@ use Rattle.packet.specs.Stream.{State, live, ended, refused}
 use Rattle.packet.specs.Session.{Session, Event, login, rejected, message, heartbeat, end, skipped}
 use Rattle.record.specs.Places.{record_size}
 use Rattle.record.specs.Record.{record_bytes, record_of}
-use Rattle.record.specs.declared.Taken.{Taken}
-use Rattle.record.specs.declared.Taken.TheVariants.{Is, NoRecord}
 use Rattle.table.specs.Memory.{Memories}
 use Rattle.handle.specs.Handle.{is_handle, head_of, handle_bytes, places_in}
 use Rattle.handle.specs.declared.Head.{Head}
@@ -20,6 +18,10 @@ use Rattle.reader.specs.Limits.{within_limits, may_step}
 use Rattle.reader.specs.Calls.{step_all, places_after}
 use Rattle.reader.specs.declared.Refusal.TheVariants.{Unfit}
 use Rattle.reader.specs.declared.Reader.{Reader}
+use Rattle.std.specs.Prelude.{None}
+use Rattle.std.specs.Prelude.{Option}
+use Rattle.std.specs.Prelude.{Some}
+use Rattle.message.specs.declared.Message.{Message}
 
 -- ---- a handle
 
@@ -98,9 +100,9 @@ abbrev pub kind_in : ℕ → ℕ
 kind_in a = a / 256 % 256
 
 -- the message of a record; bytes that are none tell nothing
-abbrev pub message_in : Taken → Texts → stream.Answer (Event Said)
-message_in (Is m) t = stream.Event (message (said m t))
-message_in NoRecord t = stream.More
+abbrev pub message_in : Option Message → Texts → stream.Answer (Event Said)
+message_in (Some m) t = stream.Event (message (said m t))
+message_in None t = stream.More
 
 -- by kind: a login's number is at 0 and its session at 8, a rejected login's reason at 0, a message is the record that the memory is; 4 to 6 have
 -- nothing to say; a refusal's number is the low byte

@@ -12,10 +12,6 @@ use Rattle.image.specs.Save as images
 use Rattle.image.specs.Save.{Saving, save_of}
 use Rattle.image.specs.Restore.{Restoring, restore_of}
 use Rattle.image.specs.declared.Header.{Header}
-use Rattle.image.specs.declared.Saved.{Saved}
-use Rattle.image.specs.declared.Saved.TheVariants.{Whole, Unsaved}
-use Rattle.image.specs.declared.Verdict.{Verdict}
-use Rattle.image.specs.declared.Verdict.TheVariants.{Accepted, Refused}
 use Rattle.reader.specs.Refusals.{refusal_number}
 use Rattle.reader.specs.Deliver.{Table}
 use Rattle.reader.specs.View.{session_of, state_of}
@@ -23,6 +19,10 @@ use Rattle.reader.specs.Limits.{within_limits}
 use Rattle.reader.specs.declared.Refusal.TheVariants.{Unfit}
 use Rattle.reader.specs.declared.Reader.{Reader}
 use Rattle.reader.specs.declared.Restored.{Restored}
+use Rattle.std.specs.Prelude.{Err}
+use Rattle.std.specs.Prelude.{Ok}
+use Rattle.std.specs.Prelude.{Result}
+use Rattle.image.specs.declared.Refusal.{Refusal}
 
 -- ---- SAVING
 
@@ -36,9 +36,9 @@ pub record Written : Type 0 where
   pub count : ℕ
   pub out : List ℕ
 
-abbrev pub written_of : Saved → List ℕ → Written
-written_of (Whole n) out = record { refusal = 0; count = n; out = out }
-written_of (Unsaved r) out = record { refusal = images.refusal_number r; count = 0; out = out }
+abbrev pub written_of : Result ℕ Refusal → List ℕ → Written
+written_of (Ok n) out = record { refusal = 0; count = n; out = out }
+written_of (Err r) out = record { refusal = images.refusal_number r; count = 0; out = out }
 
 abbrev pub written_by : Saving → Written
 written_by s = written_of s.answer s.out
@@ -51,7 +51,7 @@ save_all r memory out =
     (record { refusal = refusal_number Unfit; count = 0; out = out })
 
 -- THE PROMISE OF SAVING: table memory and an output were lent, and an answer came and the output was left so
-abbrev pub Saves : Reader → List ℕ → List ℕ → Saved → List ℕ → Type 0
+abbrev pub Saves : Reader → List ℕ → List ℕ → Result ℕ Refusal → List ℕ → Type 0
 Saves r memory out a after = written_of a after ≡ save_all r memory out
 
 -- ---- RESTORING
@@ -61,9 +61,9 @@ abbrev pub line_of : Header → Line
 line_of h = cond h.known (waiting h.session h.next) fresh_line
 
 -- an accepted image's rows have their index made anew (W-207); a refused one leaves the index
-abbrev pub index_after : Verdict → ℕ → List ℕ → List ℕ → List ℕ
-index_after Accepted rows table index = built rows (length index) table
-index_after (Refused r) rows table index = index
+abbrev pub index_after : Result (Unit {0}) Refusal → ℕ → List ℕ → List ℕ → List ℕ
+index_after (Ok u) rows table index = built rows (length index) table
+index_after (Err r) rows table index = index
 
 -- the session that an image and the memory that it left give
 abbrev pub restored_session : Restoring → List ℕ → Session Table
@@ -80,9 +80,9 @@ pub record Came : Type 0 where
 abbrev pub came : Session Table → ℕ → Came
 came s refusal = record { state = live s []; used = 0; refusal = refusal }
 
-abbrev pub restore_number : Verdict → ℕ
-restore_number Accepted = 0
-restore_number (Refused r) = images.refusal_number r
+abbrev pub restore_number : Result (Unit {0}) Refusal → ℕ
+restore_number (Ok u) = 0
+restore_number (Err r) = images.refusal_number r
 
 abbrev pub came_of : Restored → Memories → Came
 came_of r memory =

@@ -41,7 +41,7 @@ fn place(rows: usize, handle: &mut [u8], table: &mut [u8], index: &mut [u8], bod
             handle::put_rows(handle::rows(handle) + 1, handle);
             0
         }
-        Placed::Refused(r) => table::refusal_number(r),
+        Placed::Refused(r) => u8::from(r),
     }
 }
 

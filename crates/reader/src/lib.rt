@@ -5,7 +5,7 @@ ghost use Rattle.std.specs.Prelude.{◌≡◌, true, cond, length};
 ghost use Rattle.record.specs.Places.{record_size};
 ghost use Rattle.table.specs.Memory.{memories};
 ghost use Rattle.table.specs.Index.{LentFitting};
-ghost use Rattle.image.specs.declared.Verdict.TheVariants.{Accepted};
+ghost use Rattle.std.specs.Prelude.{Ok};
 ghost use Rattle.handle.specs.Handle.{handle_size, head_of, handle_bytes};
 ghost use Rattle.reader.specs.View.{no_text, reader_with, head_part, ready_of};
 ghost use Rattle.reader.specs.Calls.{Stepping, Starting};
@@ -15,7 +15,7 @@ ghost use Rattle.reader.specs.Running.{HostRuns, RunsOn, Running};
 ghost use Rattle.reader.specs.Saving.{line_of, Saves, index_after, Restores};
 
 use handle::{HANDLE_SIZE, HEAD_SIZE, Head};
-use image::{Header, Saved};
+use image::Header;
 use packet::{Framing, HELD_SIZE, Line};
 use record::RECORD_SIZE;
 use table::{Board, index};
@@ -118,22 +118,16 @@ pub struct Ran {
 }
 
 #[derive(Clone, Copy)]
-pub enum StartAnswer {
-    Ready,
-    Refused(Refusal),
-}
-
-#[derive(Clone, Copy)]
 pub struct Started {
     pub reader: Reader,
-    pub answer: StartAnswer,
+    pub answer: Result<(), Refusal>,
 }
 
 // An image is accepted, or refused by name; then the reader is fresh.
 #[derive(Clone, Copy)]
 pub struct Restored {
     pub reader: Reader,
-    pub verdict: image::Verdict,
+    pub verdict: Result<(), image::Refusal>,
 }
 
 pub fn no_text() -> Texts
@@ -376,13 +370,13 @@ fn restored_line(h: Header) -> Line
 }
 
 // The index of the rows of an image that was accepted.
-fn index_rows(verdict: image::Verdict, rows: usize, table: &[u8], index: &mut [u8])
-    requires { verdict ≡ Accepted → LentFitting rows (memories table.now index.old) }
+fn index_rows(verdict: Result<(), image::Refusal>, rows: usize, table: &[u8], index: &mut [u8])
+    requires { verdict ≡ Ok tt → LentFitting rows (memories table.now index.old) }
     ensures { index.new ≡ index_after verdict rows table.now index.old }
 {
     match verdict {
-        image::Verdict::Accepted => index::build(index, table, rows),
-        image::Verdict::Refused(_) => {}
+        Ok(()) => index::build(index, table, rows),
+        Err(_) => {}
     }
 }
 
@@ -427,13 +421,13 @@ impl Reader {
         let verdict = applied.verdict;
         let reader = ready(Line::fresh(), board);
         match verdict {
-            table::Verdict::Accepted => Started {
+            Ok(()) => Started {
                 reader,
-                answer: StartAnswer::Ready,
+                answer: Ok(()),
             },
-            table::Verdict::Refused(r) => Started {
+            Err(r) => Started {
                 reader,
-                answer: StartAnswer::Refused(refusals::of_table(r)),
+                answer: Err(refusals::of_table(r)),
             },
         }
     }
@@ -492,7 +486,7 @@ impl Reader {
     }
 
     // The image of the table to the front of `out`. Held bytes and a standing refusal are not saved.
-    pub fn save(self, table: &[u8], out: &mut [u8]) -> Saved
+    pub fn save(self, table: &[u8], out: &mut [u8]) -> Result<usize, image::Refusal>
         ensures { Saves self table.now out.old result out.new }
     {
         let held = self.held;
@@ -504,7 +498,7 @@ impl Reader {
             &held,
             table,
         ) {
-            return Saved::Unsaved(image::Refusal::Unfit);
+            return Err(image::Refusal::Unfit);
         }
         let line = self.line;
         let session = line.session;
@@ -525,7 +519,7 @@ impl Reader {
         if !index::is_index(index) {
             return Restored {
                 reader: ready(Line::fresh(), table::fresh_board()),
-                verdict: image::Verdict::Refused(image::Refusal::Unfit),
+                verdict: Err(image::Refusal::Unfit),
             };
         }
         let back = image::restore(saved, table);

@@ -12,7 +12,6 @@ ghost use Rattle.reader.specs.Shapes.{Tellable, told_by, read_back, beside, quie
 
 use crate::{Event, StepAnswer, Texts, Why, no_text, refusals};
 use packet::SESSION_SIZE;
-use record::Taken;
 
 pub const LOGIN: u32 = 256;
 
@@ -129,14 +128,14 @@ fn message(event: &[u8]) -> Heard
     let texts = held.texts;
     let taken = held.taken;
     match taken {
-        Taken::Is(m) => Heard {
+        Some(m) => Heard {
             answer: StepAnswer::Event(Event::Message(m)),
             texts: Texts {
                 session: [0; SESSION_SIZE],
                 message: texts,
             },
         },
-        Taken::NoRecord => quiet(StepAnswer::More),
+        None => quiet(StepAnswer::More),
     }
 }
 

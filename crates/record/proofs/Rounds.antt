@@ -24,9 +24,6 @@ use Rattle.message.specs.declared.Message.TheVariants as message
 use Rattle.message.specs.declared.Texts.{Texts}
 use Rattle.message.specs.declared.Refusal.{Refusal}
 use Rattle.message.specs.declared.Refusal.TheVariants.{UnknownLetter, WrongLength, BadField}
-use Rattle.message.specs.declared.Answer.{Answer}
-use Rattle.message.specs.declared.Answer.TheVariants as reading
-use Rattle.message.specs.declared.Written.TheVariants.{Whole, Unwritten}
 use Rattle.message.specs.declared.WriteRefusal.{WriteRefusal}
 use Rattle.message.specs.declared.WriteRefusal.TheVariants.{BrokenRecord, ShortOutput}
 use Rattle.message.proofs.Table.{is-listed-letter}
@@ -35,11 +32,15 @@ use Rattle.message.proofs.Typed.{inside, accepted-typed}
 use Rattle.message.proofs.NoZero.{kept-no-zero}
 use Rattle.record.specs.Places.{record_size, letter_place, places_for, short_side_places, long_side_places, record_letters, record_letter, record_letter_for}
 use Rattle.record.specs.Record.{laid_over, record_bytes, held, said_by, said_of, confirmed, record_of, Answered, answered, read_to, read_answer, written_as, write_from, write_answer, Roomy}
-use Rattle.record.specs.declared.Taken.{Taken}
-use Rattle.record.specs.declared.Taken.TheVariants.{Is, NoRecord}
 use Rattle.record.proofs.Laid.{apart, outside, laid-length, part-kept, fit_wide, values-laid, laid-own}
 use Rattle.record.proofs.Typed.{is_said, is-record, record-roomy, roomy, typed}
 use Rattle.record.proofs.NoZero.{no-zero-keeps}
+use Rattle.std.specs.Prelude.{Err}
+use Rattle.std.specs.Prelude.{Ok}
+use Rattle.std.specs.Prelude.{Result}
+use Rattle.std.specs.Prelude.{None}
+use Rattle.std.specs.Prelude.{Option}
+use Rattle.std.specs.Prelude.{Some}
 
 -- ---- the places of a message
 
@@ -184,10 +185,10 @@ is_read : (bs before memory : List ℕ) → read_answer bs before ≡ answered 0
 unfolding read_answer read_to
 is_read bs before memory = sized (eqb (length before) record_size)
   where
-    told : (a : Answer) → (read_of bs).answer ≡ a → read_to a (read_of bs).texts before ≡ answered 0 memory → Read bs memory
-    told (reading.Is m) q e =
+    told : (a : Result Message Refusal) → (read_of bs).answer ≡ a → read_to a (read_of bs).texts before ≡ answered 0 memory → Read bs memory
+    told (Ok m) q e =
         record { said = m; texts = (read_of bs).texts; is = λ i. record { answer = q i; texts = (read_of bs).texts }; kept = sym (ap (λ (x : Answered). x.memory) e) }
-    told (reading.Refused r) q e = no-refusal r (ap (λ (x : Answered). x.number) e)
+    told (Err r) q e = no-refusal r (ap (λ (x : Answered). x.number) e)
 
     sized : (b : Bool) → cond b (read_to (read_of bs).answer (read_of bs).texts before) (answered 20 before) ≡ answered 0 memory → Read bs memory
     sized true e = told (read_of bs).answer refl e
@@ -214,10 +215,10 @@ is-written bs out memory n = sized (eqb (length bs) record_size)
     t : Texts
     t = (record_of bs).texts
 
-    kept : (m : Message) (k l : Bool) → (record_of bs).taken ≡ Is m → keeps m t ≡ k → leb (letter_for m).size (length out) ≡ l
+    kept : (m : Message) (k l : Bool) → (record_of bs).taken ≡ Some m → keeps m t ≡ k → leb (letter_for m).size (length out) ≡ l
         → written_as
-        (cond k (cond l (outcome (Whole (letter_for m).size) (overlay out 0 (bytes_of m t))) (outcome (Unwritten ShortOutput) out)) (outcome (Unwritten BrokenRecord) out)).answer
-        (cond k (cond l (outcome (Whole (letter_for m).size) (overlay out 0 (bytes_of m t))) (outcome (Unwritten ShortOutput) out)) (outcome (Unwritten BrokenRecord) out)).memory
+        (cond k (cond l (outcome (Ok (letter_for m).size) (overlay out 0 (bytes_of m t))) (outcome (Err ShortOutput) out)) (outcome (Err BrokenRecord) out)).answer
+        (cond k (cond l (outcome (Ok (letter_for m).size) (overlay out 0 (bytes_of m t))) (outcome (Err ShortOutput) out)) (outcome (Err BrokenRecord) out)).memory
         ≡ answered (n * 256) memory → Wrote bs out memory n
     kept m true true q p l e =
         record {
@@ -232,9 +233,9 @@ is-written bs out memory n = sized (eqb (length bs) record_size)
     kept m true false q p l e = no-write-refusal ShortOutput n (ap (λ (x : Answered). x.number) e)
     kept m false l q p r e = no-write-refusal BrokenRecord n (ap (λ (x : Answered). x.number) e)
 
-    told : (x : Taken) → (record_of bs).taken ≡ x → write_from x t out ≡ answered (n * 256) memory → Wrote bs out memory n
-    told (Is m) q e = kept m (keeps m t) (leb (letter_for m).size (length out)) q refl refl e
-    told NoRecord q e = absurd (omega (arith, ap (λ (x : Answered). x.number) e))
+    told : (x : Option Message) → (record_of bs).taken ≡ x → write_from x t out ≡ answered (n * 256) memory → Wrote bs out memory n
+    told (Some m) q e = kept m (keeps m t) (leb (letter_for m).size (length out)) q refl refl e
+    told None q e = absurd (omega (arith, ap (λ (x : Answered). x.number) e))
 
     sized : (b : Bool) → cond b (write_from (record_of bs).taken t out) (answered 20 out) ≡ answered (n * 256) memory → Wrote bs out memory n
     sized true e = told (record_of bs).taken refl e
@@ -247,11 +248,11 @@ unfolding write_of keeps bytes_of
 own-write m t out = rw (own-texts m t)
 
 written : (m : Message) (t : Texts) (out : List ℕ) → keeps m t ≡ true → (letter_for m).size ≤ length out
-    → write_of m t out ≡ outcome (Whole (letter_for m).size) (overlay out 0 (bytes_of m t))
+    → write_of m t out ≡ outcome (Ok (letter_for m).size) (overlay out 0 (bytes_of m t))
 unfolding write_of
 written m t out k l = rw (k, le-leb (letter_for m).size (length out) l)
 
-held-written : (bs out : List ℕ) (m : Message) (t : Texts) (n : ℕ) (zs : List ℕ) → length bs ≡ record_size → record_of bs ≡ held m t → write_of m t out ≡ outcome (Whole n) zs
+held-written : (bs out : List ℕ) (m : Message) (t : Texts) (n : ℕ) (zs : List ℕ) → length bs ≡ record_size → record_of bs ≡ held m t → write_of m t out ≡ outcome (Ok n) zs
     → write_answer bs out ≡ answered (n * 256) zs
 unfolding write_answer write_from written_as
 held-written bs out m t n zs l e w = rw (eq-eqb (length bs) record_size l, e, w)
@@ -266,7 +267,7 @@ wire-back bs before memory out s e room =
     let y = accepted-typed bs s m t r.is in
     let w = write_read bs s m t r.is in
     let f = roomy m t y.0 w.1 in
-    let wrote : write_of m (texts_with m t) out ≡ outcome (Whole (length bs)) (overlay out 0 bs)
+    let wrote : write_of m (texts_with m t) out ≡ outcome (Ok (length bs)) (overlay out 0 bs)
     = own-write m t out ∙ written m t out w.1 (omega (arith, y.1)) ∙ rw (w.0, y.1) in
     rw r.kept (held-written (record_bytes m t) out m (texts_with m t) (length bs) (overlay out 0 bs) (record-length m t f) (take_back m t f (kept-no-zero m t w.1)) wrote)
 

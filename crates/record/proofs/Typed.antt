@@ -28,9 +28,10 @@ use Rattle.message.proofs.Feeds.{found, code-found}
 use Rattle.message.proofs.Typed.{inside, values-fit}
 use Rattle.record.specs.Places.{record_size, places_for, short_quote_places, short_side_places, record_letters}
 use Rattle.record.specs.Record.{record_bytes, held, no_record, said_by, said_of, confirmed, record_of, Roomy}
-use Rattle.record.specs.declared.Taken.{Taken}
-use Rattle.record.specs.declared.Taken.TheVariants.{Is, NoRecord}
 use Rattle.record.specs.declared.Held.{Held}
+use Rattle.std.specs.Prelude.{None}
+use Rattle.std.specs.Prelude.{Option}
+use Rattle.std.specs.Prelude.{Some}
 
 -- ---- room in a record and in the letter's own fields: the widths are the same, but for the number of M
 
@@ -106,7 +107,7 @@ record-kept c bs =
 
 none-clash : {A : Type 0} {m : Message} {t : Texts} → no_record ≡ held m t → A
 none-clash {m = m} e =
-    let p : NoRecord ≡ Is m = ap (λ (x : Held). x.taken) e in
+    let p : None ≡ Some m = ap (λ (x : Held). x.taken) e in
     let z : ◌≡◌ {A = ℕ} 0 1 = cc in
     absurd (omega arith)
 
@@ -129,7 +130,7 @@ is_said bs m t = by (eqb l.size 0) refl
     by false q e =
         let some : l.size ≡ 0 → ⊥ = eqb-false l.size 0 q in
         let w = record-makes (get_or bs 0 0) bs some in
-        let o : Is (l.makes (values l.rows bs)).0 ≡ Is m = ap (λ (x : Held). x.taken) e in
+        let o : Some (l.makes (values l.rows bs)).0 ≡ Some m = ap (λ (x : Held). x.taken) e in
         let p : (l.makes (values l.rows bs)).0 ≡ m = cc in
         let u : (l.makes (values l.rows bs)).1 ≡ t = ap (λ (x : Held). x.texts) e in
         let places : places_for m ≡ l.rows = ap places_for (sym p) ∙ w.own in
@@ -155,19 +156,19 @@ pub is-record : (bs : List ℕ) (m : Message) (t : Texts) → record_of bs ≡ h
 unfolding record_of confirmed
 is-record bs m t = sized (eqb (length bs) record_size) refl
   where
-    checked : (m' : Message) (b : Bool) → length bs ≡ record_size → (said_of bs).taken ≡ Is m' → same (record_bytes m' (said_of bs).texts) bs ≡ b
+    checked : (m' : Message) (b : Bool) → length bs ≡ record_size → (said_of bs).taken ≡ Some m' → same (record_bytes m' (said_of bs).texts) bs ≡ b
         → cond b (held m' (said_of bs).texts) no_record ≡ held m t → Record bs m t
     checked m' true l q k e =
-        let o : Is m' ≡ Is m = ap (λ (x : Held). x.taken) e in
+        let o : Some m' ≡ Some m = ap (λ (x : Held). x.taken) e in
         let p : m' ≡ m = cc in
         let u : (said_of bs).texts ≡ t = ap (λ (x : Held). x.texts) e in
         let same_bytes : record_bytes m' (said_of bs).texts ≡ bs = test-same (record_bytes m' (said_of bs).texts) bs k in
         record { long = l; said = λ i. record { taken = (q ∙ o) i; texts = u i }; own = ap (λ (x : Message). record_bytes x t) (sym p) ∙ ap (record_bytes m') (sym u) ∙ same_bytes }
     checked m' false l q k e = none-clash e
 
-    told : (x : Taken) → length bs ≡ record_size → (said_of bs).taken ≡ x → confirmed x (said_of bs).texts bs ≡ held m t → Record bs m t
-    told (Is m') l q e = checked m' (same (record_bytes m' (said_of bs).texts) bs) l q refl e
-    told NoRecord l q e = none-clash e
+    told : (x : Option Message) → length bs ≡ record_size → (said_of bs).taken ≡ x → confirmed x (said_of bs).texts bs ≡ held m t → Record bs m t
+    told (Some m') l q e = checked m' (same (record_bytes m' (said_of bs).texts) bs) l q refl e
+    told None l q e = none-clash e
 
     sized : (b : Bool) → eqb (length bs) record_size ≡ b → cond b (confirmed (said_of bs).taken (said_of bs).texts bs) no_record ≡ held m t → Record bs m t
     sized true k e = told (said_of bs).taken (eqb-true (length bs) record_size k) refl e

@@ -17,13 +17,15 @@ use Rattle.std.specs.Prelude.{Option}
 use Rattle.message.specs.declared.ShortNumbers.{ShortNumbers}
 use Rattle.message.specs.declared.Message.{Message}
 use Rattle.message.specs.declared.Texts.{Texts}
-use Rattle.message.specs.declared.Answer.{Answer}
-use Rattle.message.specs.declared.Answer.TheVariants as reading
 use Rattle.message.proofs.Feeds.{found}
 use Rattle.record.specs.Places.{record_size, short_places, instrument_places, record_letters}
 use Rattle.record.specs.Record.{held, no_record, said_by, record_of, answered, read_to, read_answer, write_answer}
 use Rattle.record.specs.declared.Held.{Held}
 use Rattle.record.proofs.Typed.{◌also◌}
+use Rattle.std.specs.Prelude.{Err}
+use Rattle.std.specs.Prelude.{Ok}
+use Rattle.std.specs.Prelude.{Result}
+use Rattle.message.specs.declared.Refusal.{Refusal}
 
 -- ---- what the fields say
 
@@ -84,15 +86,15 @@ pub read-long : (bs memory : List ℕ) → (length memory ≡ record_size → �
 unfolding read_answer
 read-long bs memory h = rw (ne_eqb (length memory) record_size h)
 
-number_read : (a : Answer) (t : Texts) (memory : List ℕ) → (read_to a t memory).number ≡ tested (record { answer = a; texts = t })
+number_read : (a : Result Message Refusal) (t : Texts) (memory : List ℕ) → (read_to a t memory).number ≡ tested (record { answer = a; texts = t })
 unfolding read_to
-number_read (reading.Is m) t memory = refl
-number_read (reading.Refused r) t memory = refl
+number_read (Ok m) t memory = refl
+number_read (Err r) t memory = refl
 
-kept_read : (a : Answer) (t : Texts) (memory : List ℕ) → (tested (record { answer = a; texts = t }) ≡ 0 → ⊥) → (read_to a t memory).memory ≡ memory
+kept_read : (a : Result Message Refusal) (t : Texts) (memory : List ℕ) → (tested (record { answer = a; texts = t }) ≡ 0 → ⊥) → (read_to a t memory).memory ≡ memory
 unfolding read_to
-kept_read (reading.Is m) t memory h = absurd (h refl)
-kept_read (reading.Refused r) t memory h = refl
+kept_read (Ok m) t memory h = absurd (h refl)
+kept_read (Err r) t memory h = refl
 
 module _ (bs memory : List ℕ) (r : ℕ) (h : length memory ≡ record_size) (is : r ≡ tested (read_of bs)) where
   as_read : read_to (read_of bs).answer (read_of bs).texts memory ≡ read_answer bs memory

@@ -10,14 +10,16 @@ use Rattle.message.specs.Message.{refusal_number, write_refusal_number, read_of,
 use Rattle.message.specs.declared.Message.{Message}
 use Rattle.message.specs.declared.Instrument.{Instrument}
 use Rattle.message.specs.declared.Texts.{Texts}
-use Rattle.message.specs.declared.Answer.{Answer}
-use Rattle.message.specs.declared.Answer.TheVariants as reading
-use Rattle.message.specs.declared.Written.{Written}
-use Rattle.message.specs.declared.Written.TheVariants.{Whole, Unwritten}
 use Rattle.record.specs.Places.{record_size, letter_place, places_for, record_letters}
-use Rattle.record.specs.declared.Taken.{Taken}
-use Rattle.record.specs.declared.Taken.TheVariants.{Is, NoRecord}
 use Rattle.record.specs.declared.Held.{Held}
+use Rattle.std.specs.Prelude.{Err}
+use Rattle.std.specs.Prelude.{Ok}
+use Rattle.std.specs.Prelude.{Result}
+use Rattle.message.specs.declared.Refusal.{Refusal}
+use Rattle.message.specs.declared.WriteRefusal.{WriteRefusal}
+use Rattle.std.specs.Prelude.{None}
+use Rattle.std.specs.Prelude.{Option}
+use Rattle.std.specs.Prelude.{Some}
 
 -- ---- THE RECORD OF A MESSAGE
 
@@ -51,10 +53,10 @@ record_bytes m t = laid_over m t (replicate record_size 0)
 -- ---- THE MESSAGE OF A RECORD
 
 abbrev pub held : Message → Texts → Held
-held m t = record { taken = Is m; texts = t }
+held m t = record { taken = Some m; texts = t }
 
 abbrev pub no_record : Held
-no_record = record { taken = NoRecord; texts = no_texts }
+no_record = record { taken = None; texts = no_texts }
 
 -- what the fields of 112 bytes say, by their letter; nothing for a letter that is not listed
 unfoldable pub said_by : Letter Content → List ℕ → Held
@@ -64,9 +66,9 @@ unfoldable pub said_of : List ℕ → Held
 said_of bs = said_by (letter_in record_letters (get_or bs 0 0)) bs
 
 -- bytes are a record when they are the record of what they say: so every other place is 0
-unfoldable pub confirmed : Taken → Texts → List ℕ → Held
-confirmed (Is m) t bs = cond (same (record_bytes m t) bs) (held m t) no_record
-confirmed NoRecord t bs = no_record
+unfoldable pub confirmed : Option Message → Texts → List ℕ → Held
+confirmed (Some m) t bs = cond (same (record_bytes m t) bs) (held m t) no_record
+confirmed None t bs = no_record
 
 unfoldable pub record_of : List ℕ → Held
 record_of bs = cond (eqb (length bs) record_size) (confirmed (said_of bs).taken (said_of bs).texts bs) no_record
@@ -82,23 +84,23 @@ abbrev pub answered : ℕ → List ℕ → Answered
 answered number memory = record { number = number; memory = memory }
 
 -- the record of a message that is accepted; its number, and the memory as it was, for one that is refused
-unfoldable pub read_to : Answer → Texts → List ℕ → Answered
-read_to (reading.Is m) t memory = answered 0 (record_bytes m t)
-read_to (reading.Refused r) t memory = answered (refusal_number r) memory
+unfoldable pub read_to : Result Message Refusal → Texts → List ℕ → Answered
+read_to (Ok m) t memory = answered 0 (record_bytes m t)
+read_to (Err r) t memory = answered (refusal_number r) memory
 
 -- before that 20 for record memory of another length
 unfoldable pub read_answer : List ℕ → List ℕ → Answered
 read_answer bs memory = cond (eqb (length memory) record_size) (read_to (read_of bs).answer (read_of bs).texts memory) (answered 20 memory)
 
 -- the count of bytes written, above a low byte of 0; or the refusal
-unfoldable pub written_as : Written → List ℕ → Answered
-written_as (Whole n) out = answered (n * 256) out
-written_as (Unwritten r) out = answered (write_refusal_number r) out
+unfoldable pub written_as : Result ℕ WriteRefusal → List ℕ → Answered
+written_as (Ok n) out = answered (n * 256) out
+written_as (Err r) out = answered (write_refusal_number r) out
 
 -- 26 for bytes that are no record
-unfoldable pub write_from : Taken → Texts → List ℕ → Answered
-write_from (Is m) t out = written_as (write_of m t out).answer (write_of m t out).memory
-write_from NoRecord t out = answered 26 out
+unfoldable pub write_from : Option Message → Texts → List ℕ → Answered
+write_from (Some m) t out = written_as (write_of m t out).answer (write_of m t out).memory
+write_from None t out = answered 26 out
 
 -- before that 20 for record memory of another length
 unfoldable pub write_answer : List ℕ → List ℕ → Answered

@@ -18,16 +18,10 @@ pub const RECORD_SIZE: usize = 112;
 // The answer for bytes that are no record, or break the rules of its fields.
 const NO_RECORD: u32 = 26;
 
-#[derive(Clone, Copy)]
-pub enum Taken {
-    Is(Message),
-    NoRecord,
-}
-
 // What some bytes hold, with a directory's texts beside it; zeros beside any other.
 #[derive(Clone, Copy)]
 pub struct Held {
-    pub taken: Taken,
+    pub taken: Option<Message>,
     pub texts: Texts,
 }
 
@@ -35,7 +29,7 @@ fn none() -> Held
     ensures { result ≡ no_record }
 {
     Held {
-        taken: Taken::NoRecord,
+        taken: None,
         texts: message::no_texts(),
     }
 }

@@ -5,7 +5,7 @@ ghost use Rattle.message.specs.Letters.{letter_in, no_texts, stamp_of, short_num
 ghost use Rattle.record.specs.Places.{record_size, stamp_places, short_places, system_event_places, instrument_places, directory_places, head_places, short_quote_places, long_quote_places, short_side_places, long_side_places, end_of_replay_places, record_letter, record_letters};
 ghost use Rattle.record.specs.Record.{held, said_by};
 
-use crate::{Held, Taken};
+use crate::{Held};
 use message::{Directory, EndOfReplay, Instrument, LongQuote, LongSide, Message, ShortNumbers, ShortQuote, ShortSide, Side, Stamp, SystemEvent, Texts, TradingAction, numbers, prices};
 
 fn stamp(bytes: &[u8]) -> Stamp
@@ -37,7 +37,7 @@ fn bare(m: Message) -> Held
     ensures { result ≡ held m no_texts }
 {
     Held {
-        taken: Taken::Is(m),
+        taken: Some(m),
         texts: message::no_texts(),
     }
 }
@@ -91,7 +91,7 @@ fn directory(bytes: &[u8]) -> Held
     ensures { result ≡ said_by (record_letter directory_letter directory_places) bytes.now }
 {
     Held {
-        taken: Taken::Is(Message::Directory(Directory {
+        taken: Some(Message::Directory(Directory {
             stamp: stamp(bytes),
             instrument: instrument(bytes),
         })),

@@ -41,11 +41,11 @@ use Rattle.table.specs.Places.{quoted_in, time_of}
 use Rattle.table.specs.declared.index.Sought.TheVariants.{Here}
 use Rattle.table.specs.declared.Board.{Board}
 use Rattle.table.specs.declared.Refusal.TheVariants.{NoQuotes}
-use Rattle.table.specs.declared.Verdict.TheVariants.{Accepted}
 use Rattle.table.proofs.Search.{Has}
 use Rattle.table.proofs.IndexPlaces.{here-has}
 use Rattle.table.proofs.Rows.{row-length, row-own}
 use Rattle.table.proofs.Exactly.{none, by-outcome}
+use Rattle.std.specs.Prelude.{Ok}
 
 -- ---- a quote that keeps its field rules
 
@@ -187,7 +187,7 @@ pub record Left (q : Quote) (k : ℕ) (mem mem' : List ℕ) : Type 0 where
 
 -- what an outcome is wanted to be: if it is accepted, it leaves the row so
 abbrev Leaving : Quote → ℕ → List ℕ → Outcome → Type 0
-Leaving q k mem o = o.applied.verdict ≡ Accepted → Left q k mem o.memory
+Leaving q k mem o = o.applied.verdict ≡ Ok (tt {0}) → Left q k mem o.memory
 
 quote-left : (b : Board) (mem : List ℕ) (s : Fitting b.rows mem) (q : Quote) (k : ℕ) → k < b.rows → Leaving q k mem (quote_at b q mem (At k))
 unfolding quote_at

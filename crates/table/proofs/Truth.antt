@@ -30,8 +30,6 @@ use Rattle.table.specs.declared.index.Sought.{Sought}
 use Rattle.table.specs.declared.index.Sought.TheVariants.{Here, Absent, Astray}
 use Rattle.table.specs.declared.Board.{Board}
 use Rattle.table.specs.declared.Refusal.TheVariants.{Unfit, TableFull}
-use Rattle.table.specs.declared.Verdict.{Verdict}
-use Rattle.table.specs.declared.Verdict.TheVariants.{Accepted, Refused}
 use Rattle.table.proofs.Search.{Has}
 use Rattle.table.proofs.Ways.{fitting-lent}
 use Rattle.table.proofs.Rows.{row-length}
@@ -39,6 +37,10 @@ use Rattle.table.proofs.IndexPlaces.{here-has}
 use Rattle.table.proofs.IndexTruth.{same-as-walk, sought-never-astray}
 use Rattle.table.proofs.IndexKept.{clear-sorted, add-sorted, change-sorted}
 use Rattle.table.proofs.Exactly.{none, either_way, LeftBy, apply-leaves}
+use Rattle.std.specs.Prelude.{Err}
+use Rattle.std.specs.Prelude.{Ok}
+use Rattle.std.specs.Prelude.{Result}
+use Rattle.table.specs.declared.Refusal.{Refusal}
 
 -- ---- THE ANSWER EQUALS THE OLD WALK'S
 
@@ -83,11 +85,11 @@ apply-walks b m t l s long = rw (fitting-lent b.rows l ((long, s.few), s.sized))
 
 -- a true index never gives 20
 pub apply-fits : (b : Board) (m : Message) (t : Texts) (l : Memories) → Sorted b.rows l.index l.table → length l.table ≡ table_size
-    → (apply_of b m t l).outcome.applied.verdict ≡ Refused Unfit → ⊥
+    → (apply_of b m t l).outcome.applied.verdict ≡ Err Unfit → ⊥
 apply-fits b m t l s long e =
     let i = apply_of b m t l in
-    let k : LeftBy b m l (Refused Unfit) i.outcome.applied.board (memories i.outcome.memory i.index)
-    = subst (λ (v : Verdict). LeftBy b m l v i.outcome.applied.board (memories i.outcome.memory i.index)) e (apply-leaves b m t l) in
+    let k : LeftBy b m l (Err Unfit) i.outcome.applied.board (memories i.outcome.memory i.index)
+    = subst (λ (v : Result (Unit {0}) Refusal). LeftBy b m l v i.outcome.applied.board (memories i.outcome.memory i.index)) e (apply-leaves b m t l) in
     never (sym (k.2 (fitting-lent b.rows l ((long, s.few), s.sized)) (never-astray b m l s)))
 
 -- ---- THE INDEX STAYS TRUE
@@ -200,13 +202,13 @@ module _ (b : Board) (m : Message) (t : Texts) (l : Memories) (s : Sorted b.rows
       by false = s
 
 -- a start that is not refused leaves it true
-pub start-sorted : (l : Memories) → let o = start_of l in o.outcome.applied.verdict ≡ Accepted → Sorted o.outcome.applied.board.rows o.index o.outcome.memory
+pub start-sorted : (l : Memories) → let o = start_of l in o.outcome.applied.verdict ≡ Ok (tt {0}) → Sorted o.outcome.applied.board.rows o.index o.outcome.memory
 unfolding start_of
 start-sorted l = by (is_lent l) refl
   where
     by : (y : Bool) → is_lent l ≡ y
         → let o = cond y (beside (replicate (length l.index) 0) (accepted fresh_board (replicate (length l.table) 0))) (refused_beside Unfit fresh_board l) in
-        o.outcome.applied.verdict ≡ Accepted → Stays o.index o.outcome
+        o.outcome.applied.verdict ≡ Ok (tt {0}) → Stays o.index o.outcome
     by true g a =
         let n : length l.index ≡ index_size = eqb-true (length l.index) index_size (both_right (is_table l.table) (is_index l.index) g) in
         rw n (clear-sorted (replicate (length l.table) 0))

@@ -19,8 +19,6 @@ use Rattle.message.specs.Test.{tested_as, tested, quote_length}
 use Rattle.message.specs.declared.Message.{Message}
 use Rattle.message.specs.declared.Texts.{Texts}
 use Rattle.message.specs.declared.Reading.{Reading}
-use Rattle.message.specs.declared.Answer.{Answer}
-use Rattle.message.specs.declared.Answer.TheVariants.{Is, Refused}
 use Rattle.message.specs.declared.Refusal.TheVariants.{UnknownLetter, WrongLength, BadField}
 use Rattle.message.proofs.Feeds.{Verdict, empty, unknown, long, field, whole, found}
 use Rattle.message.proofs.Table.{room}
@@ -42,6 +40,10 @@ use Rattle.table.specs.declared.Refusal.TheVariants.{Unfit, NoRow, NoQuotes, Fix
 use Rattle.table.specs.declared.wire.Placed.{Placed}
 use Rattle.table.specs.declared.wire.Placed.TheVariants as placing
 use Rattle.table.proofs.Ways.{lent_row, back, row-lent, row_back}
+use Rattle.std.specs.Prelude.{Err}
+use Rattle.std.specs.Prelude.{Ok}
+use Rattle.std.specs.Prelude.{Result}
+use Rattle.message.specs.declared.Refusal as message_refusal
 
 infixr 5 ◌also◌
 abbrev ◌also◌ : {A B : Type 0} → A → B → A × B
@@ -49,11 +51,11 @@ a also b = (a, b)
 
 -- ---- bytes that have passed their test
 
-passed-taken : (a : Answer) → tested_as a ≡ 0 → Taken a
-passed-taken (Is m) e = tt
-passed-taken (Refused UnknownLetter) e = absurd (omega arith)
-passed-taken (Refused WrongLength) e = absurd (omega arith)
-passed-taken (Refused BadField) e = absurd (omega arith)
+passed-taken : (a : Result Message message_refusal.Refusal) → tested_as a ≡ 0 → Taken a
+passed-taken (Ok m) e = tt
+passed-taken (Err UnknownLetter) e = absurd (omega arith)
+passed-taken (Err WrongLength) e = absurd (omega arith)
+passed-taken (Err BadField) e = absurd (omega arith)
 
 fine-sized : (bs : List ℕ) → Fine bs → Sized (letter_in letters (get_or bs 0 0)) bs
 fine-sized [] f = absurd f
@@ -133,7 +135,7 @@ module _ (bs : List ℕ) (m : Message) (t : Texts) (e : read_of bs ≡ message.a
   as-made : (P : Message → Texts → Type 0) → P (made bs).0 (made bs).1 → P m t
   as-made P p =
       let a : told (made bs) ≡ message.accepted m t = read_made (read-verdict bs) m t e in
-      let i : Is (made bs).0 ≡ Is m = ap (λ (r : Reading). r.answer) a in
+      let i : Ok (made bs).0 ≡ Ok m = ap (λ (r : Reading). r.answer) a in
       let j : (made bs).0 ≡ m = cc in
       let k : (made bs).1 ≡ t = ap (λ (r : Reading). r.texts) a in
       subst (λ (x : Message). P x t) j (subst (P (made bs).0) k p)

@@ -39,15 +39,9 @@ pub enum Refusal {
 }
 
 #[derive(Clone, Copy)]
-pub enum Verdict {
-    Accepted,
-    Refused(Refusal),
-}
-
-#[derive(Clone, Copy)]
 pub struct Applied {
     pub board: Board,
-    pub verdict: Verdict,
+    pub verdict: Result<(), Refusal>,
 }
 
 impl From<Refusal> for u8 {
@@ -64,12 +58,12 @@ impl From<Refusal> for u8 {
     }
 }
 
-pub fn number_of(v: Verdict) -> u8
+pub fn number_of(v: Result<(), Refusal>) -> u8
     ensures { result ≡ number_in v }
 {
     match v {
-        Verdict::Accepted => 0,
-        Verdict::Refused(r) => u8::from(r),
+        Ok(()) => 0,
+        Err(r) => u8::from(r),
     }
 }
 
@@ -88,7 +82,7 @@ fn accept(board: Board) -> Applied
 {
     Applied {
         board,
-        verdict: Verdict::Accepted,
+        verdict: Ok(()),
     }
 }
 
@@ -97,7 +91,7 @@ fn refuse(r: Refusal, board: Board) -> Applied
 {
     Applied {
         board,
-        verdict: Verdict::Refused(r),
+        verdict: Err(r),
     }
 }
 

@@ -6,7 +6,7 @@ use block::BLOCK_SIZE;
 use files::input::Input;
 use files::status::{FAILED, FINE, REFUSED, WRONG};
 use files::{Loaded, command_line, complaints, status};
-use image::{MOST_BLOCKS, Saved, Verdict};
+use image::MOST_BLOCKS;
 use listing::{Ending, Shown};
 use reader::Reader;
 use session::Heard;
@@ -107,13 +107,13 @@ fn print_listing(rt: &HostRuntime, reader: Reader, table: &[u8], ending: Ending)
 fn save(rt: &HostRuntime, reader: Reader, table: &[u8], path: &[u8]) -> bool {
     let mut image = [0u8; MOST_IMAGE];
     match reader.save(table, &mut image) {
-        Saved::Whole(n) => {
+        Ok(n) => {
             if n > MOST_IMAGE {
                 return false;
             }
             files::store(rt, &PROGRAM, path, &image[..n])
         }
-        Saved::Unsaved(r) => {
+        Err(r) => {
             complaints::refusal(
                 rt,
                 &PROGRAM,
@@ -175,8 +175,8 @@ fn restored(
     let reader = back.reader;
     let verdict = back.verdict;
     match verdict {
-        Verdict::Accepted => ready(reader),
-        Verdict::Refused(r) => {
+        Ok(()) => ready(reader),
+        Err(r) => {
             print_refused(rt, path, image::refusal_number(r));
             none(reader, REFUSED)
         }

@@ -14,8 +14,6 @@ use Rattle.image.specs.Save.{refusal_number, Saving, saving}
 use Rattle.image.specs.Restore.{version_of}
 use Rattle.image.specs.Moves.{wanted_by, moved_of, move_of, lost_of}
 use Rattle.image.specs.declared.Refusal.{Refusal}
-use Rattle.image.specs.declared.Saved.{Saved}
-use Rattle.image.specs.declared.Saved.TheVariants.{Whole, Unsaved}
 use Rattle.image.specs.declared.Way.{Way}
 use Rattle.image.proofs.Again.{Kept, kept}
 use Rattle.image.proofs.Moved.{moved-size, moved-header, moved-version}
@@ -24,6 +22,9 @@ use Rattle.topmove.specs.Moving.{facts_of, moved_from, outcome_of}
 use Rattle.topmove.specs.declared.moving.Moved.{Moved}
 use Rattle.topmove.specs.declared.moving.Outcome.{Outcome}
 use Rattle.topmove.specs.declared.moving.Outcome.TheVariants.{Done, Refused}
+use Rattle.std.specs.Prelude.{Err}
+use Rattle.std.specs.Prelude.{Ok}
+use Rattle.std.specs.Prelude.{Result}
 
 -- the move by its way
 pub by_way : {way v : Way} {s : Saving} (image out : List ℕ) → way ≡ v → s ≡ move_of v image out → s ≡ move_of way image out
@@ -49,13 +50,13 @@ facts-moved way image k i =
 
 -- ---- the answer of a move
 
-module _ (way : Way) (image out : List ℕ) {r : Saved} {z : List ℕ} (e : saving r z ≡ move_of way image out) where
+module _ (way : Way) (image out : List ℕ) {r : Result ℕ Refusal} {z : List ℕ} (e : saving r z ≡ move_of way image out) where
   pub written : z ≡ (move_of way image out).out
   written = ap (λ (s : Saving). s.out) e
 
-  module _ (n : ℕ) (w : r ≡ Whole n) where
+  module _ (n : ℕ) (w : r ≡ Ok n) where
     done : Went way image out n z
-    done = went way image out n z (sym e ∙ ap (λ (a : Saved). saving a z) w)
+    done = went way image out n z (sym e ∙ ap (λ (a : Result ℕ Refusal). saving a z) w)
 
     image-kept : Kept image
     image-kept = (kept (wanted_by way) image done.taken).0
@@ -82,7 +83,7 @@ module _ (way : Way) (image out : List ℕ) {r : Saved} {z : List ℕ} (e : savi
     said f =
         ap Done (f ∙ ap (facts_of image) front-is ∙ facts-moved way image image-kept) ∙ ap (outcome_of way image) (sym w ∙ ap (λ (s : Saving). s.answer) e)
 
-  pub refused : (q : Refusal) {number : ℕ} → r ≡ Unsaved q → number ≡ refusal_number q → Refused number ≡ outcome_of way image (move_of way image out).answer
+  pub refused : (q : Refusal) {number : ℕ} → r ≡ Err q → number ≡ refusal_number q → Refused number ≡ outcome_of way image (move_of way image out).answer
   unfolding outcome_of
   refused q w f = ap Refused f ∙ ap (outcome_of way image) (sym w ∙ ap (λ (s : Saving). s.answer) e)
 
@@ -94,9 +95,9 @@ module _ (way : Way) (image out : List ℕ) {o : Outcome} {z : List ℕ} (m : Mo
   unfolding outcome_of moved_from
   moved_inside = by (move_of way image out).answer refl (sym e ∙ p)
     where
-      by : (s : Saved) → (move_of way image out).answer ≡ s → outcome_of way image s ≡ Done m → m.size ≤ length z
-      by (Whole n) a g =
-          let is : saving (Whole n) z ≡ move_of way image out = λ j. saving (sym a j) (f j) in
+      by : (s : Result ℕ Refusal) → (move_of way image out).answer ≡ s → outcome_of way image s ≡ Done m → m.size ≤ length z
+      by (Ok n) a g =
+          let is : saving (Ok n) z ≡ move_of way image out = λ j. saving (sym a j) (f j) in
           let y : moved_from way image ≡ m = cc in
           omega (arith, inside way image out is n refl, (done way image out is n refl).size, ap (λ (x : Moved). x.size) y)
-      by (Unsaved q) a g = let x : ◌≡◌ {A = ℕ} 0 1 = cc in absurd (omega arith)
+      by (Err q) a g = let x : ◌≡◌ {A = ℕ} 0 1 = cc in absurd (omega arith)

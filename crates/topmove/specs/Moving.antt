@@ -5,12 +5,14 @@ use Rattle.image.specs.Header.{header_of}
 use Rattle.image.specs.Save.{refusal_number}
 use Rattle.image.specs.Restore.{version_of}
 use Rattle.image.specs.Moves.{version_after, lost_of}
-use Rattle.image.specs.declared.Saved.{Saved}
-use Rattle.image.specs.declared.Saved.TheVariants.{Whole, Unsaved}
 use Rattle.image.specs.declared.Way.{Way}
 use Rattle.topmove.specs.declared.moving.Moved.{Moved}
 use Rattle.topmove.specs.declared.moving.Outcome.{Outcome}
 use Rattle.topmove.specs.declared.moving.Outcome.TheVariants.{Done, Refused}
+use Rattle.std.specs.Prelude.{Err}
+use Rattle.std.specs.Prelude.{Ok}
+use Rattle.std.specs.Prelude.{Result}
+use Rattle.image.specs.declared.Refusal.{Refusal}
 
 -- read off the moved bytes
 unfoldable pub facts_of : List ℕ → List ℕ → Moved
@@ -28,6 +30,6 @@ moved_from way image =
     }
 
 -- and of a refusal its number
-unfoldable pub outcome_of : Way → List ℕ → Saved → Outcome
-outcome_of way image (Whole n) = Done (moved_from way image)
-outcome_of way image (Unsaved r) = Refused (refusal_number r)
+unfoldable pub outcome_of : Way → List ℕ → Result ℕ Refusal → Outcome
+outcome_of way image (Ok n) = Done (moved_from way image)
+outcome_of way image (Err r) = Refused (refusal_number r)

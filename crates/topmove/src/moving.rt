@@ -5,7 +5,7 @@ ghost use Rattle.image.specs.Save.{saving};
 ghost use Rattle.image.specs.Moves.{move_of};
 ghost use Rattle.topmove.specs.Moving.{facts_of, outcome_of};
 
-use image::{Saved, Way, moves};
+use image::{Way, moves};
 
 // Where the rows in use are counted in an image.
 const ROWS_AT: usize = 26;
@@ -29,7 +29,7 @@ pub enum Outcome {
 }
 
 // The image as the other version has it, to the front of `out`.
-fn save(way: Way, image: &[u8], out: &mut [u8]) -> Saved
+fn save(way: Way, image: &[u8], out: &mut [u8]) -> Result<usize, image::Refusal>
     ensures { saving result out.new ≡ move_of way image.now out.old }
 {
     match way {
@@ -58,7 +58,7 @@ pub fn move_image(way: Way, image: &[u8], out: &mut [u8]) -> Outcome
     ensures written { out.new ≡ (move_of way image.now out.old).out }
 {
     match save(way, image, out) {
-        Saved::Whole(n) => Outcome::Done(facts(image, &out[..n])),
-        Saved::Unsaved(r) => Outcome::Refused(image::refusal_number(r)),
+        Ok(n) => Outcome::Done(facts(image, &out[..n])),
+        Err(r) => Outcome::Refused(image::refusal_number(r)),
     }
 }

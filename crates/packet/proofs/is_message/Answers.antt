@@ -1,9 +1,11 @@
 -- `packet::is_message` meets its contract.
 use Rattle.packet.proofs.Messages.{message-missing, message-row}
 use Rattle.packet.proofs.is_message.Goals as goal
+use Rattle.std.specs.Prelude.{Some}
+use Rattle.std.specs.Prelude.{None}
 
-pub returns-in-Missing : goal.returns-in-Missing
-returns-in-Missing c = search message-missing
+pub returns-in-None : goal.returns-in-None
+returns-in-None c = search message-missing
 
-pub returns-in-Row : goal.returns-in-Row
-returns-in-Row c = search message-row
+pub returns-in-Some : goal.returns-in-Some
+returns-in-Some c = search message-row

@@ -1,9 +1,10 @@
 -- `reader::index_rows` meets its contract.
 use mathlib.Core.Path.{sym, ap, ◌∙◌}
 use native.Mathlib.Omega.{arith}
-use Rattle.image.specs.declared.Verdict.{Verdict}
 use Rattle.reader.specs.Saving.{index_after}
 use Rattle.reader.proofs.index_rows.Goals as goal
+use Rattle.std.specs.Prelude.{Result}
+use Rattle.image.specs.declared.Refusal.{Refusal}
 
 pub build-requires : goal.build-requires
 build-requires c =
@@ -13,8 +14,8 @@ build-requires c =
 pub returns-in-Accepted : goal.returns-in-Accepted
 returns-in-Accepted c =
     c.build.ensures
-    ∙ ap (λ (v : Verdict). index_after v c.args.rows c.args.table.now c.args.index.now) (sym c.in-Accepted.is)
+    ∙ ap (λ (v : Result (Unit {0}) Refusal). index_after v c.args.rows c.args.table.now c.args.index.now) (sym c.in-Accepted.is)
 
 pub returns-in-Refused : goal.returns-in-Refused
 returns-in-Refused c =
-    ap (λ (v : Verdict). index_after v c.args.rows c.args.table.now c.args.index.now) (sym c.in-Refused.is)
+    ap (λ (v : Result (Unit {0}) Refusal). index_after v c.args.rows c.args.table.now c.args.index.now) (sym c.in-Refused.is)

@@ -1,6 +1,6 @@
 -- `record::none` meets its contract.
-use Rattle.record.specs.declared.Taken.TheVariants.{NoRecord}
 use Rattle.record.proofs.none.Goals as goal
+use Rattle.std.specs.Prelude.{None}
 
 pub returns : goal.returns
-returns c i = record { taken = NoRecord; texts = c.no_texts.ensures i }
+returns c i = record { taken = None; texts = c.no_texts.ensures i }

@@ -14,7 +14,7 @@ pub read-h-requires : goal.read-h-requires
 read-h-requires c = let f : c.judge.result ≡ Ok (tt {0}) = c.in_ok-judge.was in search move-long depth 14
 
 pub put_blocks-requires : goal.put_blocks-requires
-put_blocks-requires c = let f : c.judge.result ≡ Ok (tt {0}) = c.in_ok-judge.was in let a : verdict_of c.args.image.now ≡ (Ok (tt {0})) = search move-any depth 14 in let n = count-here c.args.image.now a c.read-h.result c.read-h.ensures in (a, c.read-h.ensures, n.0, omega (arith, n.1))
+put_blocks-requires c = let f : c.judge.result ≡ Ok (tt {0}) = c.in_ok-judge.was in let a : verdict_of c.args.image.now ≡ Ok (tt {0}) = search move-any depth 14 in let n = count-here c.args.image.now a c.read-h.result c.read-h.ensures in (a, c.read-h.ensures, n.0, omega (arith, n.1))
 
 pub returns : goal.returns
 returns c = let f : c.judge.result ≡ Ok (tt {0}) = c.in_ok-judge.was in search move-whole depth 14
