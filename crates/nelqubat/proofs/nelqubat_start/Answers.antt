@@ -23,8 +23,8 @@ returns-in-Ready c =
       event = search (rules, c.head.type_inv.1.1.1.0);
     } in record { host_starts = start-goes c.args.handle.now memory _ (memories _ _) c.start-started.result c.head.result c.if-handle-ne-HANDLE_SIZE.false c.start-started.ensures c.head.ensures c.put_unheld.ensures (started-ready c.in-Ready.is); starts_on = start-on c.args.handle.now memory _ (memories _ _) c.start-started.result c.head.result fits c.start-started.ensures c.head.ensures c.put_unheld.ensures }
 
-pub returns-in-Refused : goal.returns-in-Refused
-returns-in-Refused c =
+pub returns-in-Err : goal.returns-in-Err
+returns-in-Err c =
     let memory : Memories = memories c.args.table.now c.args.index.now in
     let fits : HeadFits c.head.result = record {
       session = search (rules, c.head.type_inv.1.1.0);

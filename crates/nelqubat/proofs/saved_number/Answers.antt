@@ -5,14 +5,14 @@ use Rattle.nelqubat.proofs.saved_number.Goals as goal
 
 pub overflow_cast-result : goal.overflow_cast-result
 overflow_cast-result c =
-    omega (arith, saved-fits c.in-Whole.is c.requires)
+    omega (arith, saved-fits c.in-Ok.is c.requires)
 
 pub overflow_mul-result : goal.overflow_mul-result
 overflow_mul-result c =
-    omega (arith, saved-fits c.in-Whole.is c.requires)
+    omega (arith, saved-fits c.in-Ok.is c.requires)
 
-pub returns-in-Whole : goal.returns-in-Whole
-returns-in-Whole c = search saved-whole
+pub returns-in-Ok : goal.returns-in-Ok
+returns-in-Ok c = search saved-whole
 
-pub returns-in-Unsaved : goal.returns-in-Unsaved
-returns-in-Unsaved c = search saved-not
+pub returns-in-Err : goal.returns-in-Err
+returns-in-Err c = search saved-not

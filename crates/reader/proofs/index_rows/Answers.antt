@@ -8,14 +8,14 @@ use Rattle.image.specs.declared.Refusal.{Refusal}
 
 pub build-requires : goal.build-requires
 build-requires c =
-    let f = c.requires c.in-Accepted.is in
+    let f = c.requires c.in-Ok.is in
     (omega (arith, f.0.1), omega (arith, f.0.1, f.1), omega (arith, f.0.0, f.0.1))
 
-pub returns-in-Accepted : goal.returns-in-Accepted
-returns-in-Accepted c =
+pub returns-in-Ok : goal.returns-in-Ok
+returns-in-Ok c =
     c.build.ensures
-    ∙ ap (λ (v : Result (Unit {0}) Refusal). index_after v c.args.rows c.args.table.now c.args.index.now) (sym c.in-Accepted.is)
+    ∙ ap (λ (v : Result (Unit {0}) Refusal). index_after v c.args.rows c.args.table.now c.args.index.now) (sym c.in-Ok.is)
 
-pub returns-in-Refused : goal.returns-in-Refused
-returns-in-Refused c =
-    ap (λ (v : Result (Unit {0}) Refusal). index_after v c.args.rows c.args.table.now c.args.index.now) (sym c.in-Refused.is)
+pub returns-in-Err : goal.returns-in-Err
+returns-in-Err c =
+    ap (λ (v : Result (Unit {0}) Refusal). index_after v c.args.rows c.args.table.now c.args.index.now) (sym c.in-Err.is)

@@ -3,4 +3,4 @@ use Rattle.topmove.proofs.Outcomes.{facts-read}
 use Rattle.topmove.proofs.moving.facts.Goals as goal
 
 pub returns : goal.returns
-returns c = facts-read _ _ c.read_head-head.ensures c.read2.ensures c.lost.ensures
+returns c = facts-read _ _ c.read_head-head.ensures c.read.ensures c.lost.ensures
