@@ -163,7 +163,7 @@ some-name : (r : Refusal) → refusal_number r ≡ 0 → ⊥
 some-name r = eqb-false (refusal_number r) 0 (some_number r)
 
 answers-same : (a b : Result (Unit {0}) Refusal) → start_number a ≡ start_number b → a ≡ b
-answers-same (Ok u) (Ok u) e = refl
+answers-same (Ok u) (Ok w) e = refl
 answers-same (Ok u) (Err r) e = absurd (some-name r (sym e))
 answers-same (Err r) (Ok u) e = absurd (some-name r e)
 answers-same (Err r) (Err q) e = ap Err (equal-names r q e)

@@ -55,7 +55,7 @@ saved-same (Err r) (Err q) z y e =
     ∙ ap (saving (Err q)) (ap (λ (w : Written). w.out) e)
 
 pub verdicts-same : (v w : Result (Unit {0}) Refusal) → restore_number v ≡ restore_number w → v ≡ w
-verdicts-same (Ok u) (Ok u) e = refl
+verdicts-same (Ok u) (Ok w) e = refl
 verdicts-same (Ok u) (Err r) e = absurd (some-name r (sym e))
 verdicts-same (Err r) (Ok u) e = absurd (some-name r e)
 verdicts-same (Err r) (Err q) e = ap Err (names_same r q e)

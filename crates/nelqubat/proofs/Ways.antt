@@ -38,7 +38,7 @@ use Rattle.image.specs.Save.{Saving, saving, size_for, save_of}
 use Rattle.image.specs.Moves.{wanted_by, move_of}
 use Rattle.image.specs.Shape.{blocks_for, pages_for, most_blocks}
 use Rattle.image.specs.declared.Header.{Header}
-use Rattle.image.specs.declared.Refusal as image
+use Rattle.image.specs.declared.Refusal as image_refusal
 use Rattle.image.proofs.Again as again
 use Rattle.image.proofs.Rounds.{stored}
 use Rattle.image.proofs.Calls.{went}
@@ -121,7 +121,7 @@ module _ (handle : List ℕ) (memory : Memories) where
 
 -- ---- saving
 
-number-any : (s : Result ℕ image.Refusal) (x y : List ℕ) → answered (saved_number (written_of s x)) y ≡ saved_as (written_of s y)
+number-any : (s : Result ℕ image_refusal.Refusal) (x y : List ℕ) → answered (saved_number (written_of s x)) y ≡ saved_as (written_of s y)
 number-any (Ok n) x y = refl
 number-any (Err r) x y = refl
 
@@ -130,7 +130,7 @@ module _ (handle table out : List ℕ) {b : Bool} (e : b ≡ is_handle handle) w
   unfolding save_host
   save-no-handle f = rw (not_call b (is_handle handle) e f)
 
-  pub save-goes : {n : ℕ} (r : Reader) (s : Result ℕ image.Refusal) (after : List ℕ) → not b ≡ false → r ≡ reader_in handle → Saves r table out s after → n ≡ saved_number (written_of s [])
+  pub save-goes : {n : ℕ} (r : Reader) (s : Result ℕ image_refusal.Refusal) (after : List ℕ) → not b ≡ false → r ≡ reader_in handle → Saves r table out s after → n ≡ saved_number (written_of s [])
       → answered n after ≡ save_host handle table out
   unfolding save_host
   save-goes r s after f g h i =
@@ -138,13 +138,13 @@ module _ (handle table out : List ℕ) {b : Bool} (e : b ≡ is_handle handle) w
 
 -- ---- a move
 
-pub move-goes : (way : Way) (image out : List ℕ) {n : ℕ} (s : Result ℕ image.Refusal) (after : List ℕ) → saving s after ≡ move_of way image out → n ≡ saved_number (written_of s [])
+pub move-goes : (way : Way) (image out : List ℕ) {n : ℕ} (s : Result ℕ image_refusal.Refusal) (after : List ℕ) → saving s after ≡ move_of way image out → n ≡ saved_number (written_of s [])
     → answered n after ≡ move_host way image out
 unfolding move_host
 move-goes way image out s after h i = ap (λ (x : ℕ). answered x after) i ∙ number-any s [] after ∙ ap (λ (o : Saving). saved_as (written_by o)) h
 
 -- a moved image is as long as it was
-pub move-fits : (way : Way) (image out : List ℕ) (s : Result ℕ image.Refusal) (after : List ℕ) → saving s after ≡ move_of way image out → SavedFits s
+pub move-fits : (way : Way) (image out : List ℕ) (s : Result ℕ image_refusal.Refusal) (after : List ℕ) → saving s after ≡ move_of way image out → SavedFits s
 move-fits way image out (Ok n) after e =
     let g = went way image out n after (sym e) in
     let k = (again.kept (wanted_by way) image g.taken).0.size in
@@ -285,7 +285,7 @@ size_few : (rows : ℕ) → rows ≤ most_rows → size_for rows ≤ most_blocks
 unfolding size_for blocks_for pages_for
 size_few rows h = omega arith
 
-saved-few : (h : Header) (mem out : List ℕ) (s : Result ℕ image.Refusal) (z : List ℕ) → save_of h mem out ≡ saving s z → SavedFits s
+saved-few : (h : Header) (mem out : List ℕ) (s : Result ℕ image_refusal.Refusal) (z : List ℕ) → save_of h mem out ≡ saving s z → SavedFits s
 unfolding headers.within_limits fits
 saved-few h mem out (Ok n) z e =
     let a = stored h mem out n z e in
@@ -294,11 +294,11 @@ saved-few h mem out (Ok n) z e =
     rw a.size (size_few h.board.rows few)
 saved-few h mem out (Err r) z e = omega arith
 
-count-any : (s : Result ℕ image.Refusal) (x y : List ℕ) → (written_of s x).count ≡ (written_of s y).count
+count-any : (s : Result ℕ image_refusal.Refusal) (x y : List ℕ) → (written_of s x).count ≡ (written_of s y).count
 count-any (Ok n) x y = refl
 count-any (Err r) x y = refl
 
-pub saves-fit : (r : Reader) (memory out : List ℕ) (s : Result ℕ image.Refusal) (after : List ℕ) → Saves r memory out s after → SavedFits s
+pub saves-fit : (r : Reader) (memory out : List ℕ) (s : Result ℕ image_refusal.Refusal) (after : List ℕ) → Saves r memory out s after → SavedFits s
 unfolding save_all
 saves-fit r memory out s after e = rw (count-any s [] after ∙ ap (λ (w : Written). w.count) e) (by (within_limits r memory))
   where
@@ -316,11 +316,11 @@ started-ready e = rw e
 pub started-refused : {a : Result (Unit {0}) Refusal} {r : Refusal} {n : ℕ} → a ≡ Err r → n ≡ refusal_number r → n ≡ start_number a
 started-refused e f = rw (e, f)
 
-pub saved-whole : {s : Result ℕ image.Refusal} {n : ℕ} → s ≡ Ok n → n * 256 ≡ saved_number (written_of s [])
+pub saved-whole : {s : Result ℕ image_refusal.Refusal} {n : ℕ} → s ≡ Ok n → n * 256 ≡ saved_number (written_of s [])
 saved-whole e = rw e (omega arith)
 
-pub saved-not : {s : Result ℕ image.Refusal} {r : image.Refusal} {n : ℕ} → s ≡ Err r → n ≡ images.refusal_number r → n ≡ saved_number (written_of s [])
+pub saved-not : {s : Result ℕ image_refusal.Refusal} {r : image_refusal.Refusal} {n : ℕ} → s ≡ Err r → n ≡ images.refusal_number r → n ≡ saved_number (written_of s [])
 saved-not e f = rw (e, f) (omega arith)
 
-pub saved-fits : {s : Result ℕ image.Refusal} {n : ℕ} → s ≡ Ok n → SavedFits s → n ≤ most_blocks * block_size
+pub saved-fits : {s : Result ℕ image_refusal.Refusal} {n : ℕ} → s ≡ Ok n → SavedFits s → n ≤ most_blocks * block_size
 saved-fits e f = rw e at f

@@ -10,8 +10,8 @@ use Rattle.nelqubat.proofs.nelqubat_start.Goals as goal
 pub returns-then-handle-ne-HANDLE_SIZE : goal.returns-then-handle-ne-HANDLE_SIZE
 returns-then-handle-ne-HANDLE_SIZE c = let memory : Memories = memories c.args.table.now c.args.index.now in record { host_starts = search start-unfit; starts_on = start_none c.args.handle.now memory c.if-handle-ne-HANDLE_SIZE.true }
 
-pub returns-in-Ready : goal.returns-in-Ready
-returns-in-Ready c =
+pub returns-in-Ok : goal.returns-in-Ok
+returns-in-Ok c =
     let memory : Memories = memories c.args.table.now c.args.index.now in
     let fits : HeadFits c.head.result = record {
       session = search (rules, c.head.type_inv.1.1.0);
@@ -21,7 +21,7 @@ returns-in-Ready c =
       used = search (rules, c.head.type_inv.1.1.1.1);
       refusal = search (rules, c.head.type_inv.1.1.1.1);
       event = search (rules, c.head.type_inv.1.1.1.0);
-    } in record { host_starts = start-goes c.args.handle.now memory _ (memories _ _) c.start-started.result c.head.result c.if-handle-ne-HANDLE_SIZE.false c.start-started.ensures c.head.ensures c.put_unheld.ensures (started-ready c.in-Ready.is); starts_on = start-on c.args.handle.now memory _ (memories _ _) c.start-started.result c.head.result fits c.start-started.ensures c.head.ensures c.put_unheld.ensures }
+    } in record { host_starts = start-goes c.args.handle.now memory _ (memories _ _) c.start-started.result c.head.result c.if-handle-ne-HANDLE_SIZE.false c.start-started.ensures c.head.ensures c.put_unheld.ensures (started-ready c.in-Ok.is); starts_on = start-on c.args.handle.now memory _ (memories _ _) c.start-started.result c.head.result fits c.start-started.ensures c.head.ensures c.put_unheld.ensures }
 
 pub returns-in-Err : goal.returns-in-Err
 returns-in-Err c =
