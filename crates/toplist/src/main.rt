@@ -84,7 +84,7 @@ fn print_line(rt: &HostRuntime, k: usize, reader: Reader, table: &[u8], ending: 
                 &PROGRAM,
                 b"the table",
                 b": not listed: refused ",
-                table::refusal_number(table::Refusal::Unfit),
+                u8::from(table::Refusal::Unfit),
             );
             Printed::Failed
         }
