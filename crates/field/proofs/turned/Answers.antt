@@ -1,8 +1,8 @@
 -- `field::turned` meets its contract.
-use borrow.Author.Rules.{rules}
+use native.Mathlib.Omega.{arith}
 use Rattle.field.specs.Bytes.{turned}
 use Rattle.field.proofs.turned.Goals as goal
 
 pub returns : goal.returns
 unfolding turned
-returns c = search rules
+returns c = omega arith
