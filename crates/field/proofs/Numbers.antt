@@ -255,17 +255,6 @@ lent-bytes s k i = let g = k i in omega arith
 pub rewrites : (n : ℕ) (s : List ℕ) (from : ℕ) → Bytes s → from + n ≤ length s → bytes_be n (be (part s from n)) ≡ part s from n
 rewrites n s from b h = rw (part_length s from n h) at (digits_value 256 (lit< tt) (part s from n) (part_bytes s from n b))
 
--- read in one place and written in another
-pub carried : (n : ℕ) (xs : List ℕ) (at : ℕ) (s : List ℕ) (from : ℕ) {v : ℕ} {ys : List ℕ} → Lent s → from + n ≤ length s → v ≡ be (part s from n)
-    → ys ≡ overlay xs at (bytes_be n v) → ys ≡ overlay xs at (part s from n)
-carried n xs at s from k h e w = w ∙ ap (λ (u : ℕ). overlay xs at (bytes_be n u)) e ∙ ap (overlay xs at) (rewrites n s from (lent-bytes s k) h)
-
--- and written in two halves
-pub carried-halves : (m n : ℕ) (xs : List ℕ) (at : ℕ) (s : List ℕ) (from : ℕ) {v : ℕ} {ys zs : List ℕ} → Lent s → from + (m + n) ≤ length s
-    → at + (m + n) ≤ length xs → v ≡ be (part s from (m + n)) → ys ≡ overlay xs at (bytes_be m (v / 256 ^ n)) → zs ≡ overlay ys (at + m) (bytes_be n (v % 256 ^ n))
-    → zs ≡ overlay xs at (part s from (m + n))
-carried-halves m n xs at s from k h g e p q = carried (m + n) xs at s from k h e (write-joins m n xs at _ g p q)
-
 -- ---- a time by its halves
 
 module _ (s : List ℕ) (at : ℕ) {high : ℕ} (k : Lent s) (h : at + 8 ≤ length s) (e : high ≡ be (part s at 4)) where

@@ -125,6 +125,7 @@ pub fn read4_low_first(s: &[u8], at: usize) -> u32
 }
 
 // The four bytes of a number in the other order.
+#[tactic(auto, unfolding(crate::specs::Bytes::turned))]
 pub fn turned(v: u32) -> u32
     ensures { result ≡ turned v }
 {
