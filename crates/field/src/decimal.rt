@@ -67,7 +67,8 @@ pub fn number_after_spaces(s: &[u8], at: usize, n: usize) -> Option<u64>
 
 // How many decimal digits v has. Each turn divides, and counts no place.
 pub fn digit_count(v: u64) -> usize
-    ensures { (result ≡ digit_count v) × (result ≤ 20) }
+    ensures count { result ≡ digit_count v }
+    ensures most { result ≤ 20 }
 {
     let mut rest = v;
     let mut k = 1;
