@@ -25,7 +25,8 @@ const STRIPS: usize = 15;
 
 const STRIP_SIZE: usize = CHECKED_SIZE / STRIPS;
 
-#[derive(Clone, Copy, PartialEq, Eq)]
+// What stands first in a block.
+#[derive(Clone, Copy, Debug, PartialEq, Eq)]
 pub struct Head {
     // The block's place, from 0.
     pub number: u16,
@@ -43,9 +44,7 @@ fn column_sum(s: &[u8], at: usize, weight: usize) -> usize
 {
     let mut bytes: u16 = 0;
     let mut sums: u16 = 0;
-    let mut strip = STRIPS;
-    while strip > 0 {
-        strip -= 1;
+    for strip in (0..STRIPS).rev() {
         sums += bytes;
         bytes += field::read::<u8>(s, at + strip * STRIP_SIZE) as u16;
     }
@@ -58,10 +57,8 @@ pub fn check(s: &[u8], at: usize) -> u16
     ensures { result ≡ check_of (part s.now at checked_size) }
 {
     let mut sum: Sum = 0;
-    let mut i = 0;
-    while i < STRIP_SIZE {
+    for i in 0..STRIP_SIZE {
         sum += column_sum(s, at + i, i + 1) as Sum;
-        i += 1;
     }
     (sum as usize % MODULUS) as u16
 }
@@ -83,6 +80,7 @@ pub fn put_check(out: &mut [u8], at: usize)
     field::write::<u16>(out, at + CHECKED_SIZE, sum);
 }
 
+// The head, to its place in the block at `at`.
 pub fn put_head(out: &mut [u8], at: usize, h: Head)
     requires { at + head_size ≤ length out.old }
     ensures { out.new ≡ overlay out.old at (head_bytes h) }
@@ -93,6 +91,7 @@ pub fn put_head(out: &mut [u8], at: usize, h: Head)
     field::write::<u64>(out, at + 6, h.next);
 }
 
+// The head of the block at `at`.
 pub fn read_head(s: &[u8], at: usize) -> Head
     requires { at + head_size ≤ length s.now }
     ensures { result ≡ head_at s.now at }
@@ -105,6 +104,7 @@ pub fn read_head(s: &[u8], at: usize) -> Head
     }
 }
 
+// The same in each field.
 #[tactic(auto, unfolding(crate::specs::Block::same_head))]
 pub fn same_head(g: Head, h: Head) -> bool
     ensures { result ≡ same_head g h }

@@ -11,8 +11,8 @@ use borrow.Author.Tests.{le-leb, leb-true, lt-ltb, le-ltb, eqb-true, eqb-false, 
 use lib.Dec.{leb, ltb, eqb, lit<}
 use lib.ListN.{length, take, drop, get_or, set, replicate, length-append, length-map, length-replicate, take-append-drop, length-drop}
 use lib.Seq.{take-append_seam, drop-append_seam, length-take-le}
-use Rattle.std.specs.Prelude.{Option}
-use Rattle.std.specs.Prelude.{Some, None}
+use Rattle.std.specs.Prelude.{Option, Some, None}
+use Rattle.std.specs.Bool.{then_some}
 use Rattle.field.specs.Bytes.{part, overlay, value, digits, Digits}
 use Rattle.field.specs.Limits.{highest_number}
 use Rattle.field.specs.Text.{every, leading, is_space, is_digit}
@@ -444,15 +444,22 @@ module _ (xs : List ℕ) (at n k : ℕ) (fits : at + n ≤ length xs) where
       closed-zero e = before-bad t.count h (number-zero xs at k (omega arith) some e)
 
       module _ (first : get_or xs at 0 ≡ 48 → ⊥) {b : Bool} (s : b ≡ every is_space (part xs (at + k) (n - k))) where
-        pub closed-yes : b ≡ true → Some v ≡ number_before_spaces (part xs at n)
+        closed-yes : b ≡ true → Some v ≡ number_before_spaces (part xs at n)
         closed-yes y =
             let d : every is_digit (part xs at k) ≡ true
             = rw (← t.count, part-take xs at n k h) at (every-leading is_digit (part xs at n)) in
             before-part xs at n k t.count h s y
             (number-done xs at k (omega arith) v k some first (omega arith) (omega arith) t.most (t.is ∙ ap decimal (part-take xs at n k h)) d)
 
-        pub closed-no : b ≡ false → None ≡ number_before_spaces (part xs at n)
+        closed-no : b ≡ false → None ≡ number_before_spaces (part xs at n)
         closed-no y = no-before-part xs at n k t.count h s y
+
+        pub closed_rest : then_some b v ≡ number_before_spaces (part xs at n)
+        closed_rest = by b refl
+          where
+            by : (so : Bool) → b ≡ so → then_some so v ≡ number_before_spaces (part xs at n)
+            by true y = closed-yes y
+            by false y = closed-no y
 
 -- digits that write too much, whatever follows
 pub before-past : (xs : List ℕ) (at n k : ℕ) → at + n ≤ length xs → k < n → (v : ℕ) → v ≡ decimal (part xs at (k + 1)) → every is_digit (part xs at (k + 1)) ≡ true → highest_number < v

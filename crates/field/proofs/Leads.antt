@@ -1,12 +1,11 @@
 -- The first character that fails a test is where the leading ones that pass it end.
 -- Assumes nothing.
-use Rattle.std.proofs.Common.{◌≡◌, refl, ap, sym, ◌∙◌, ℕ, suc, ◌+◌, ◌≤◌, Bool, true, false, cond, not, List, [], ◌∷◌, length, arith}
-use Rattle.std.specs.Prelude.{Option, Some, None, unwrap_or}
+use Rattle.std.proofs.Common.{◌≡◌, refl, ◌∙◌, ℕ, ◌+◌, ◌≤◌, Bool, not, List, [], ◌∷◌, length, arith}
+use Rattle.std.specs.Prelude.{unwrap_or}
 use Rattle.std.specs.List.{position_from}
-use Rattle.field.specs.Text.{leading, within}
+use Rattle.field.specs.Text.{leading}
 use Rattle.field.specs.Bytes.{part}
 use Rattle.field.proofs.Parts.{part_length}
-
 
 pub lead_at : (p : ℕ → Bool) (i : ℕ) (xs : List ℕ) → unwrap_or (position_from (λ c. not (p c)) i xs) (i + length xs) ≡ i + leading p xs
 unfolding leading

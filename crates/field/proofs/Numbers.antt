@@ -13,8 +13,9 @@ use lib.Arith.{digits_lt, digits_div, mod-mul}
 use lib.Dec.{lit<, leb, ltb}
 use borrow.Author.Tests.{le-leb, lt-leb, lt-ltb, le-ltb}
 use lib.Pow.{pow-add}
-use lib.ListN.{length, get_or, set, take, drop, replicate, length-append}
+use lib.ListN.{length, get_or, set, take, drop, length-append}
 use lib.Seq.{get_or-drop}
+use Rattle.std.specs.Int.{w32, from_le_bytes, byte_at, bytes_high_first}
 use Rattle.field.specs.Bytes.{part, overlay, value, digits, Digits, be, bytes_be, turned, Bytes}
 use Rattle.field.specs.Limits.{latest_time, price_end, time_in_range, price_in_range}
 use Rattle.field.proofs.Parts.{part_length, part-split, part-one, part_none, part-overlay, overlay-own, overlay-one, overlay-next}
@@ -159,12 +160,15 @@ turned-turned v h =
 pub turned_same : (u v : ℕ) → u < 256 ^ 4 → v < 256 ^ 4 → turned u ≡ turned v → u ≡ v
 turned_same u v h k e = sym (turned-turned u h) ∙ ap turned e ∙ turned-turned v k
 
--- as the code reads them, the lowest first
-pub low_first : (xs : List ℕ) (at : ℕ) {a b c d : ℕ} → at + 4 ≤ length xs → a ≡ be (part xs at 1) → b ≡ be (part xs (at + 1) 1)
-    → c ≡ be (part xs (at + 2) 1) → d ≡ be (part xs (at + 3) 1) → a < 256 → b < 256 → c < 256 → d < 256
-    → turned (a + b * 256 + c * 65536 + d * 16777216) ≡ be (part xs at 4)
-low_first xs at {a} {b} {c} {d} l p q r s ha hb hc hd =
-    turned-sum a b c d ha hb hc hd ∙ omega (arith, be-gather xs at 1 (1 ∷ 1 ∷ 1 ∷ []) (omega arith))
+-- as std reads four bytes, the lowest first
+pub turned-low : (xs : List ℕ) → length xs ≡ 4 → Bytes xs → turned (from_le_bytes w32 xs) ≡ be xs
+unfolding value
+turned-low [] e k = absurd (omega arith)
+turned-low (a ∷ []) e k = absurd (omega arith)
+turned-low (a ∷ b ∷ []) e k = absurd (omega arith)
+turned-low (a ∷ b ∷ c ∷ []) e k = absurd (omega arith)
+turned-low (a ∷ b ∷ c ∷ d ∷ []) e k = turned-sum a b c d (k 0) (k 1) (k 2) (k 3) ∙ omega arith
+turned-low (a ∷ b ∷ c ∷ d ∷ x ∷ xs) e k = absurd (omega arith)
 
 turned-is : (v : ℕ) → turned v ≡ v / 16777216 % 256 + v / 65536 % 256 * 256 + v / 256 % 256 * 65536 + v % 256 * 16777216
 unfolding turned
@@ -197,10 +201,15 @@ pub write-joins : (m n : ℕ) (xs : List ℕ) (at v : ℕ) {ys zs : List ℕ} �
     → zs ≡ overlay ys (at + m) (bytes_be n (v % 256 ^ n)) → zs ≡ overlay xs at (bytes_be (m + n) v)
 write-joins m n xs at v h a b = cc (write-split xs at m n v (omega arith))
 
--- zero is zeros
-pub write-zero : (xs : List ℕ) (at v : ℕ) {zs : List ℕ} → v ≡ 0 → zs ≡ overlay xs at (replicate 8 0) → zs ≡ overlay xs at (bytes_be 8 v)
+-- std's bytes of a number, the highest first
+byte-is : (k v : ℕ) → byte_at k v ≡ v / 256 ^ k % 256
+byte-is zero v = rw (pow-zero, div-one)
+byte-is (suc k) v = refl
+
+pub bytes_high : (k v : ℕ) → bytes_high_first k v ≡ bytes_be k v
 unfolding digits
-write-zero xs at v z e = rw z e
+bytes_high zero v = refl
+bytes_high (suc k) v = rw (byte-is k v, bytes_high k v)
 
 pub write-one : (xs : List ℕ) (at v : ℕ) → at < length xs → v < 256 → set xs at v ≡ overlay xs at (bytes_be 1 v)
 unfolding digits
@@ -245,17 +254,6 @@ lent-bytes s k i = let g = k i in omega arith
 -- a field's number, written as wide as the field, is the field
 pub rewrites : (n : ℕ) (s : List ℕ) (from : ℕ) → Bytes s → from + n ≤ length s → bytes_be n (be (part s from n)) ≡ part s from n
 rewrites n s from b h = rw (part_length s from n h) at (digits_value 256 (lit< tt) (part s from n) (part_bytes s from n b))
-
--- read in one place and written in another
-pub carried : (n : ℕ) (xs : List ℕ) (at : ℕ) (s : List ℕ) (from : ℕ) {v : ℕ} {ys : List ℕ} → Lent s → from + n ≤ length s → v ≡ be (part s from n)
-    → ys ≡ overlay xs at (bytes_be n v) → ys ≡ overlay xs at (part s from n)
-carried n xs at s from k h e w = w ∙ ap (λ (u : ℕ). overlay xs at (bytes_be n u)) e ∙ ap (overlay xs at) (rewrites n s from (lent-bytes s k) h)
-
--- and written in two halves
-pub carried-halves : (m n : ℕ) (xs : List ℕ) (at : ℕ) (s : List ℕ) (from : ℕ) {v : ℕ} {ys zs : List ℕ} → Lent s → from + (m + n) ≤ length s
-    → at + (m + n) ≤ length xs → v ≡ be (part s from (m + n)) → ys ≡ overlay xs at (bytes_be m (v / 256 ^ n)) → zs ≡ overlay ys (at + m) (bytes_be n (v % 256 ^ n))
-    → zs ≡ overlay xs at (part s from (m + n))
-carried-halves m n xs at s from k h g e p q = carried (m + n) xs at s from k h e (write-joins m n xs at _ g p q)
 
 -- ---- a time by its halves
 

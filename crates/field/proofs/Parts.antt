@@ -3,7 +3,7 @@
 use mathlib.Core.Path.{◌≡◌, refl, sym, ap, ◌∙◌}
 use mathlib.Core.List.{List, [], ◌∷◌, ◌++◌, append_assoc, append-nil}
 use Prim.Native.Nat.{ℕ, zero, suc, ◌+◌, ◌-◌, ◌≤◌, ◌<◌}
-use native.Mathlib.Nat.{add-zero, zero-add, suc-add, add_assoc, sub-zero}
+use native.Mathlib.Nat.{add-zero, zero-add, suc-add, add_assoc}
 use native.Mathlib.Numerals.{add-one}
 use native.Mathlib.Omega.{arith}
 use lib.ListN.{length, take, drop, get_or, set, length-append, length-take, length-drop, take-append-drop, replicate, length-replicate, replicate-append-replicate}
@@ -73,10 +73,7 @@ part-cons xs at n h k =
     let e : 1 + (n - 1) ≡ n = omega arith in
     rw e at (part-split xs at 1 (n - 1)) ∙ rw (part-one xs at k)
 
--- what is left of a part after k elements: all of it, the element at k and what is left after that, nothing
-pub rest_all : (xs : List ℕ) (at n : ℕ) → part xs (at + 0) (n - 0) ≡ part xs at n
-rest_all xs at n = rw (add-zero, sub-zero)
-
+-- what is left of a part after k elements: the element at k and what is left after that, nothing
 pub rest-cons : (xs : List ℕ) (at n k : ℕ) → k < n → at + n ≤ length xs
     → part xs (at + k) (n - k) ≡ get_or xs (at + k) 0 ∷ part xs (at + (k + 1)) (n - (k + 1))
 rest-cons xs at n k h f =

@@ -33,11 +33,6 @@ module _ (p : ℕ → Bool) (xs : List ℕ) (at n k : ℕ) (h : k < n) (f : at +
   unfolding leading
   leading-stop e = rw (rest-cons xs at n k h f, e)
 
-  pub leading-on : p (get_or xs (at + k) 0) ≡ true
-      → leading p (part xs (at + k) (n - k)) ≡ suc (leading p (part xs (at + (k + 1)) (n - (k + 1))))
-  unfolding leading
-  leading-on e = rw (rest-cons xs at n k h f, e)
-
 pub leading_end : (p : ℕ → Bool) (xs : List ℕ) (at n k : ℕ) → n ≤ k → leading p (part xs (at + k) (n - k)) ≡ 0
 unfolding leading
 leading_end p xs at n k g = rw (rest-none xs at n k g)

@@ -14,15 +14,13 @@ fn closed_number(s: &[u8], at: usize, n: usize, k: usize, v: u64) -> Option<u64>
     if k == 0 {
         return None;
     }
-    if s[at] == 48 {
+    if s[at] == b'0' {
         return None;
     }
-    if text::only(s, at + k, n - k, b' ') {
-        return Some(v);
-    }
-    None
+    text::only(s, at + k, n - k, b' ').then_some(v)
 }
 
+// The number that the n bytes from `at` on write with digits and then spaces; none where they write no number of 1 to HIGHEST_NUMBER so.
 pub fn number_before_spaces(s: &[u8], at: usize, n: usize) -> Option<u64>
     requires { at + n ≤ length s.now }
     ensures { result ≡ number_before_spaces (part s.now at n) }
@@ -30,14 +28,13 @@ pub fn number_before_spaces(s: &[u8], at: usize, n: usize) -> Option<u64>
     let mut v: u64 = 0;
     for k in 0..n {
         let c = s[at + k];
-        if c < 48 {
+        if c < b'0' {
             return closed_number(s, at, n, k, v);
         }
-        if 57 < c {
+        if b'9' < c {
             return None;
         }
-        let d = c - 48;
-        v = v * 10 + d as u64;
+        v = v * 10 + (c - b'0') as u64;
         if HIGHEST_NUMBER < v {
             return None;
         }
@@ -59,16 +56,19 @@ fn unpadded_number(s: &[u8], at: usize, n: usize) -> Option<u64>
     number_before_spaces(s, at, n)
 }
 
+// The number that the n bytes from `at` on write with spaces and then digits; none as above.
 pub fn number_after_spaces(s: &[u8], at: usize, n: usize) -> Option<u64>
     requires { at + n ≤ length s.now }
     ensures { result ≡ number_after_spaces (part s.now at n) }
 {
-    let k = text::run(s, at, n, 32, 32);
+    let k = text::run(s, at, n, b' ', b' ');
     unpadded_number(s, at + k, n - k)
 }
 
+// How many decimal digits v has. Each turn divides, and counts no place.
 pub fn digit_count(v: u64) -> usize
-    ensures { (result ≡ digit_count v) × (result ≤ 20) }
+    ensures count { result ≡ digit_count v }
+    ensures most { result ≤ 20 }
 {
     let mut rest = v;
     let mut k = 1;
@@ -86,7 +86,7 @@ pub fn write_digits(out: &mut [u8], at: usize, n: usize, v: u64)
 {
     let mut rest = v;
     for i in (0..n).rev() {
-        out[at + i] = 48 + (rest % 10) as u8;
+        out[at + i] = b'0' + (rest % 10) as u8;
         rest /= 10;
     }
 }
@@ -98,5 +98,5 @@ pub fn write_number_before_spaces(out: &mut [u8], at: usize, n: usize, v: u64)
 {
     let k = digit_count(v);
     write_digits(out, at, k, v);
-    crate::fill(out, at + k, n - k, 32);
+    crate::fill(out, at + k, n - k, b' ');
 }

@@ -14,7 +14,8 @@ fn first_outside(s: &[u8], low: u8, high: u8) -> Option<usize>
 // How many of the n bytes from `at` on, counted from the first, lie from low to high.
 pub fn run(s: &[u8], at: usize, n: usize, low: u8, high: u8) -> usize
     requires { at + n ≤ length s.now }
-    ensures { (result ≡ leading (within low high) (part s.now at n)) × (result ≤ n) }
+    ensures count { result ≡ leading (within low high) (part s.now at n) }
+    ensures most { result ≤ n }
 {
     first_outside(&s[at..at + n], low, high).unwrap_or(n)
 }

@@ -1,24 +1,21 @@
 -- The ways through the code that judges a packet: a law for each.
 -- Assumes nothing.
-use mathlib.Core.Path.{◌≡◌, refl, sym, ap, ◌∙◌, subst}
-use mathlib.Core.List.{List, [], ◌∷◌, append-nil}
+use mathlib.Core.Path.{◌≡◌, sym, ap, ◌∙◌, subst}
+use mathlib.Core.List.{List, [], ◌∷◌}
 use mathlib.Core.Bool.{Bool, true, false, ◌||◌, not, and-false, and-true}
-use Prim.Native.Nat.{ℕ, zero, suc, ◌+◌, ◌-◌, ◌≤◌, ◌<◌}
-use native.Mathlib.Numerals.{add-one}
+use Prim.Native.Nat.{ℕ, ◌+◌, ◌-◌, ◌<◌}
 use native.Mathlib.Omega.{arith}
-use borrow.Author.Tests.{eq-eqb, ne_eqb, eqb-true, lt-ltb, le-ltb}
-use lib.Dec.{eqb, eqb-suc-suc}
-use lib.ListN.{length, get_or, drop}
-use lib.Seq.{drop-length}
-use Rattle.field.specs.Bytes.{part, overlay, same}
+use borrow.Author.Tests.{eq-eqb, ne_eqb, eqb-true}
+use lib.Dec.{eqb}
+use lib.ListN.{length, get_or}
+use Rattle.field.specs.Bytes.{part, same}
 use Rattle.field.specs.Decimal.{number_after_spaces}
 use Rattle.std.specs.Prelude.{Option}
 use Rattle.std.specs.Prelude.{Some, None}
-use Rattle.field.proofs.Parts.{part-all, part_length}
-use Rattle.packet.specs.Frame.{held_size, room_for}
+use Rattle.field.proofs.Parts.{part-all}
 use Rattle.packet.specs.Numbering.{none_left}
 use Rattle.packet.specs.Table.{TableRow, packet_table, entry_of, in_place, of_size}
-use Rattle.packet.specs.Line.{session_size, login_size, login_session, login_number, logged_in, follows, login_with, login_of, BodyFits, meant_of, packet_by, packet_of}
+use Rattle.packet.specs.Line.{session_size, login_size, login_session, login_number, follows, login_with, login_of, BodyFits, meant_of, packet_by, packet_of}
 use Rattle.packet.specs.declared.Line.{Line}
 use Rattle.packet.specs.declared.table.Place.{Place}
 use Rattle.packet.specs.declared.table.Meaning.{Meaning}
@@ -50,14 +47,6 @@ pub each_row : (P : Option (Option ℕ × Meaning × Place) → Type 0) (letter 
 unfolding entry_of
 each_row P letter [] m h = m
 each_row P letter (r ∷ rs) m h = both P (eqb letter r.letter) (λ _. h.0) (λ _. each_row P letter rs m h.1)
-
--- a size, by the body's length
-pub size-zero : (size : Option ℕ) (n k : ℕ) → size ≡ Some k → k ≡ 0 → false ≡ of_size size (n + 1)
-size-zero size n k e z = rw (e, z, ne_eqb (n + 1) 0 (λ f. omega arith))
-
-pub size_exact : (size : Option ℕ) (n k : ℕ) → size ≡ Some k → (k ≡ 0 → ⊥) → eqb n (k - 1) ≡ of_size size (n + 1)
-size_exact size n zero e z = absurd (z refl)
-size_exact size n (suc m) e z = let d : suc m - 1 ≡ m = omega arith in rw (e, add-one, d) (sym (eqb-suc-suc n m))
 
 -- ---- a login
 
@@ -158,23 +147,3 @@ module _ (l : Line) (letter : ℕ) (body : List ℕ) {x : Option (Option ℕ × 
       judge-meant u v =
           let y : of_size size (length body + 1) ≡ true = not-not-call q _ h u in
           v ∙ rw (placed, y) at (packet-by f)
-
--- ---- bytes that are held
-
-pub room-all : (used n : ℕ) → n < held_size - used → n ≡ room_for used n
-unfolding room_for
-room-all used n h = rw (lt-ltb n (held_size - used) h)
-
-pub room-rest : (used n : ℕ) → held_size - used ≤ n → held_size - used ≡ room_for used n
-unfolding room_for
-room-rest used n h = rw (le-ltb n (held_size - used) h)
-
--- ---- a login's session, copied over the whole of an array
-
-pub logged-in-with : (l : Line) (xs body : List ℕ) {ys : List ℕ} → length xs ≡ session_size → session_size ≤ length body → ys ≡ overlay xs 0 (login_session body)
-    → logged_in l ys ≡ logged_in l (login_session body)
-unfolding overlay
-logged-in-with l xs body t h e =
-    let k : length (login_session body) ≡ session_size = part_length body 0 session_size (omega arith) in
-    let d : drop session_size xs ≡ [] = ap (λ (n : ℕ). drop n xs) (sym t) ∙ drop-length xs in
-    ap (logged_in l) (e ∙ rw (k, d) (append-nil (login_session body)))

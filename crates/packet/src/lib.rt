@@ -23,8 +23,8 @@ pub const SESSION_SIZE: usize = 10;
 
 const NUMBER_SIZE: usize = 20;
 
-// What stands at the front of some bytes; of a whole packet, its L.
-#[derive(Clone, Copy)]
+// What stands at the front of some bytes; of a whole packet, its L. Three ways with names of their own, of which two hand nothing on.
+#[derive(Clone, Copy, Debug, PartialEq, Eq)]
 pub enum Framing {
     Short,
     BadLength,
@@ -32,8 +32,9 @@ pub enum Framing {
 }
 
 // A session, and where the reader is in it: is the session known, is it logged in, the next number.
-#[derive(Clone, Copy)]
+#[derive(Clone, Copy, Debug, PartialEq, Eq)]
 pub struct Line {
+    // Ten bytes beside `known`, not an option: handle and image hold them, known or not (handle `head_bytes`, image `session_bytes`).
     pub session: [u8; SESSION_SIZE],
     pub known: bool,
     pub logged: bool,
@@ -41,7 +42,7 @@ pub struct Line {
 }
 
 // Why a packet is refused.
-#[derive(Clone, Copy)]
+#[derive(Clone, Copy, Debug, PartialEq, Eq)]
 pub enum Fault {
     BadLength,
     UnknownLetter,
@@ -52,7 +53,7 @@ pub enum Fault {
 }
 
 // What a whole packet is to a line.
-#[derive(Clone, Copy)]
+#[derive(Clone, Copy, Debug, PartialEq, Eq)]
 pub enum Packet {
     Login(u64),
     Rejected(u8),
@@ -63,6 +64,7 @@ pub enum Packet {
     Refused(Fault),
 }
 
+// What stands at the front of the bytes that are held or have come.
 pub fn front(bytes: &[u8]) -> Framing
     ensures { result ≡ front_of (frame bytes.now) }
 {
@@ -87,20 +89,15 @@ pub fn room(used: usize, len: usize) -> usize
     requires { used ≤ held_size }
     ensures { result ≡ room_for used len }
 {
-    let free = HELD_SIZE - used;
-    if len < free {
-        return len;
-    }
-    free
+    len.min(HELD_SIZE - used)
 }
 
-// The held bytes, with the first n bytes of a piece behind those that are used.
+// The held bytes, with the first n bytes of a piece behind those that are used. They lie in fixed memory with their count beside them.
 pub fn joined(held: &[u8], used: usize, piece: &[u8], n: usize) -> [u8; HELD_SIZE]
     requires { (length held.now ≡ held_size) × ((used + n ≤ held_size) × (n ≤ length piece.now)) }
     ensures { result ≡ overlay held.now used (part piece.now 0 n) }
 {
-    let mut out = [0u8; HELD_SIZE];
-    field::copy(held, 0, HELD_SIZE, &mut out, 0);
+    let mut out = field::bytes::<HELD_SIZE>(held, 0);
     field::copy(piece, 0, n, &mut out, used);
     out
 }
@@ -110,14 +107,7 @@ fn login_follows(line: Line, body: &[u8], n: u64) -> bool
     requires { length body.now ≡ login_size }
     ensures { result ≡ follows line (login_session body.now) n }
 {
-    if n == line.next {
-        if line.known {
-            let session = line.session;
-            return field::equal(&session, 0, body, 0, SESSION_SIZE);
-        }
-        return true;
-    }
-    false
+    n == line.next && (!line.known || field::equal(&line.session, 0, body, 0, SESSION_SIZE))
 }
 
 // A login: its session stands first in the body, and then its number.
@@ -127,12 +117,8 @@ fn login(line: Line, body: &[u8]) -> Packet
 {
     match field::decimal::number_after_spaces(body, SESSION_SIZE, NUMBER_SIZE) {
         None => Packet::Refused(Fault::BadForm),
-        Some(n) => {
-            if login_follows(line, body, n) {
-                return Packet::Login(n);
-            }
-            Packet::Refused(Fault::NotNext)
-        }
+        Some(n) if login_follows(line, body, n) => Packet::Login(n),
+        Some(_) => Packet::Refused(Fault::NotNext),
     }
 }
 
@@ -144,12 +130,10 @@ fn meant(line: Line, body: &[u8], meaning: Meaning) -> Packet
     match meaning {
         Meaning::LoginAccepted => login(line, body),
         Meaning::LoginRejected => Packet::Rejected(body[0]),
-        Meaning::Message => {
-            if numbering::none_left(line.next) {
-                return Packet::Refused(Fault::NumbersUsedUp);
-            }
-            Packet::Message
+        Meaning::Message if numbering::none_left(line.next) => {
+            Packet::Refused(Fault::NumbersUsedUp)
         }
+        Meaning::Message => Packet::Message,
         Meaning::Heartbeat => Packet::Heartbeat,
         Meaning::EndOfSession => Packet::End,
         Meaning::Skipped => Packet::Skipped,
@@ -160,18 +144,16 @@ fn meant(line: Line, body: &[u8], meaning: Meaning) -> Packet
 pub fn judge(line: Line, letter: u8, body: &[u8]) -> Packet
     ensures { result ≡ packet_of line letter body.now }
 {
-    match table::row_of(letter) {
-        None => Packet::Refused(Fault::UnknownLetter),
-        Some((size, meaning, place)) => {
-            if !table::in_place(place, line.logged) {
-                return Packet::Refused(Fault::WrongPlace);
-            }
-            if !table::of_size(size, body) {
-                return Packet::Refused(Fault::BadForm);
-            }
-            meant(line, body, meaning)
-        }
+    let Some((size, meaning, place)) = table::row_of(letter) else {
+        return Packet::Refused(Fault::UnknownLetter);
+    };
+    if !table::in_place(place, line.logged) {
+        return Packet::Refused(Fault::WrongPlace);
     }
+    if !table::of_size(size, body) {
+        return Packet::Refused(Fault::BadForm);
+    }
+    meant(line, body, meaning)
 }
 
 // Is a packet with that letter, whatever its body, a message that takes the next number?
@@ -188,11 +170,12 @@ pub fn is_message(logged: bool, next: u64, letter: u8) -> bool
 }
 
 impl Line {
+    // No known session, which is ten spaces.
     pub fn fresh() -> Line
         ensures { result ≡ fresh_line }
     {
         Line {
-            session: [32u8; SESSION_SIZE],
+            session: [b' '; SESSION_SIZE],
             known: false,
             logged: false,
             next: numbering::FIRST_NUMBER,
@@ -216,10 +199,8 @@ impl Line {
         requires { session_size ≤ length body.now }
         ensures { result ≡ logged_in self (login_session body.now) }
     {
-        let mut session = [0u8; SESSION_SIZE];
-        field::copy(body, 0, SESSION_SIZE, &mut session, 0);
         Line {
-            session,
+            session: field::bytes::<SESSION_SIZE>(body, 0),
             known: true,
             logged: true,
             next: self.next,

@@ -7,6 +7,7 @@ use field::limits::HIGHEST_NUMBER;
 
 pub const FIRST_NUMBER: u64 = 1;
 
+// Have all numbers been taken?
 pub fn none_left(next: u64) -> bool
     ensures { result ≡ none_left next }
 {

@@ -2,7 +2,7 @@
 ghost use Rattle.std.specs.Prelude.{◌≡◌, ◌+◌, length};
 ghost use Rattle.packet.specs.Table.{packet_table, entry_of, takes_number, in_place, of_size};
 
-#[derive(Clone, Copy, PartialEq, Eq)]
+#[derive(Clone, Copy, Debug, PartialEq, Eq)]
 pub enum Meaning {
     LoginAccepted,
     LoginRejected,
@@ -12,7 +12,7 @@ pub enum Meaning {
     Skipped,
 }
 
-#[derive(Clone, Copy)]
+#[derive(Clone, Copy, Debug, PartialEq, Eq)]
 pub enum Place {
     BeforeLogin,
     AfterLogin,
@@ -20,6 +20,7 @@ pub enum Place {
 }
 
 // The length, one more than the body's, that a packet with the letter must have, or none where any will do; what it means; and where it may stand.
+// The match is that table, a line for each letter.
 pub fn row_of(letter: u8) -> Option<(Option<usize>, Meaning, Place)>
     ensures { result ≡ entry_of letter packet_table }
 {
@@ -58,11 +59,6 @@ pub fn of_size(size: Option<usize>, body: &[u8]) -> bool
 {
     match size {
         None => true,
-        Some(n) => {
-            if n == 0 {
-                return false;
-            }
-            body.len() == n - 1
-        }
+        Some(n) => 0 < n && body.len() == n - 1,
     }
 }

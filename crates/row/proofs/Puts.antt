@@ -25,7 +25,7 @@ use Rattle.message.specs.declared.TradingAction.{TradingAction}
 use Rattle.message.specs.declared.Texts.{Texts}
 use Rattle.row.specs.Fields.{row_size, id_of, tradable_of, side_at, sides_of, price_of, side_time_at, side_time_of, unknown_time, has_seen, weight, seen_with, state_takes_quote, takes_quote}
 use Rattle.row.specs.Changes.{changed, purge, directory_changes, new_row, action_changes, sides_changes, times_changes, own_changes, quote_changes}
-use Rattle.row.specs.Rules.{marks_keep, side_keeps, common_keeps, newest, side_time_keeps, times_keep, row_keeps}
+use Rattle.row.specs.Rules.{marks_keep, side_keeps, newest, side_time_keeps, times_keep}
 use Rattle.row.specs.Moves.{mark_of, marks_of, forward_row, back_row}
 use Rattle.row.specs.declared.Sides.TheVariants.{One, Both}
 use Rattle.row.specs.declared.Quote.{Quote}
@@ -162,10 +162,6 @@ id-read xs e = e
 
 -- a quote is taken where the state takes one and tradable is Y
 module _ (xs : List ℕ) {state : ℕ} {quoting : Bool} (e : state ≡ be (part xs 52 1)) (f : quoting ≡ state_takes_quote state) where
-  pub state-denies : quoting ≡ false → false ≡ takes_quote xs
-  unfolding takes_quote
-  state-denies g = rw (← e, ← f, g)
-
   pub state-allows : {tradable : Bool} → quoting ≡ true → tradable ≡ eqb (be (part xs 34 1)) 89 → tradable ≡ takes_quote xs
   unfolding takes_quote tradable_of values
   state-allows g h = rw (← e, ← f, g, h)
@@ -197,14 +193,6 @@ module _ (xs : List ℕ) (side : Side) {at sides : ℕ} {seen : Bool} (e : at �
   pub side-seen : not seen ≡ false → {low : Bool} → low ≡ price_in_range (be (part xs (at + 4) 4)) → low ≡ side_keeps side xs
   unfolding side_keeps
   side-seen n h = rw (told ∙ not-false seen n, ← e) h
-
-pub keep-not : (version : ℕ) (xs : List ℕ) {common : Bool} → common ≡ common_keeps xs → not common ≡ true → false ≡ row_keeps version xs
-unfolding row_keeps
-keep-not version xs {common} e n = rw (← e, not-true common n)
-
-pub keep-on : (version : ℕ) (xs : List ℕ) {common times : Bool} → common ≡ common_keeps xs → not common ≡ false → times ≡ times_keep version xs → times ≡ row_keeps version xs
-unfolding row_keeps
-keep-on version xs {common} e n h = rw (← e, not-false common n) h
 
 first-or : (a b : Bool) → a || b ≡ cond a true b
 first-or true b = refl
@@ -244,12 +232,6 @@ module _ (xs : List ℕ) (version : ℕ) where
   times-older e f = rw (ne_eqb version newest e) f
 
 -- ---- the moves
-
-pub mark-seen : (side : Side) (sides : ℕ) {seen : Bool} → seen ≡ has_seen side sides → seen ≡ true → unknown_time ≡ mark_of side sides
-mark-seen side sides e f = rw (← e, f)
-
-pub mark-unseen : (side : Side) (sides : ℕ) {seen : Bool} → seen ≡ has_seen side sides → seen ≡ false → 0 ≡ mark_of side sides
-mark-unseen side sides e f = rw (← e, f)
 
 pub forward-put : (xs : List ℕ) {sides bid ask : ℕ} {us zs : List ℕ} → row_size ≤ length xs → sides ≡ be (part xs 54 1)
     → bid ≡ mark_of Bid sides → us ≡ overlay xs 106 (bytes_be 8 bid) → ask ≡ mark_of Ask sides → zs ≡ overlay us 114 (bytes_be 8 ask)

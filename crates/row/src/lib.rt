@@ -39,14 +39,12 @@ fn state_takes_quote(state: u8) -> bool
 }
 
 // May the row take a quote?
+#[tactic(auto, unfolding(crate::specs::Fields::takes_quote))]
 pub fn takes_quote(row: &[u8]) -> bool
     requires { row_size ≤ length row.now }
     ensures { result ≡ takes_quote row.now }
 {
-    if !state_takes_quote(fields::state(row)) {
-        return false;
-    }
-    field::read::<u8>(row, 34) == b'Y'
+    state_takes_quote(fields::state(row)) && field::read::<u8>(row, 34) == b'Y'
 }
 
 // The sides seen, with one more.

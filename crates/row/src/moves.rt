@@ -1,21 +1,23 @@
 // A row of an image of version 1 or 2 as version 3 has it, and back.
 ghost use Rattle.std.specs.Prelude.{◌≡◌, ◌≤◌, length};
 ghost use Rattle.row.specs.Fields.{row_size};
-ghost use Rattle.row.specs.Moves.{mark_of, forward_row, back_row, knows_time, count_of, known_times};
+ghost use Rattle.row.specs.Moves.{mark_of, forward_row, back_row, knows_time, known_times};
 
 use crate::fields;
 use message::Side;
 
 // A time that is unknown has all bits set.
-pub const UNKNOWN_TIME: u64 = 18446744073709551615;
+pub const UNKNOWN_TIME: u64 = u64::MAX;
 
+// What the way forward sets as a side's time.
 fn mark(side: Side, sides: u8) -> u64
     ensures { result ≡ mark_of side sides }
 {
     if fields::has_seen(side, sides) {
-        return UNKNOWN_TIME;
+        UNKNOWN_TIME
+    } else {
+        0
     }
-    0
 }
 
 // The time of each seen side is unknown.
@@ -37,6 +39,7 @@ pub fn back(row: &mut [u8])
 }
 
 // Is the side seen, and its time known?
+#[tactic(auto, unfolding(crate::specs::Moves::knows_time))]
 fn knows_time(row: &[u8], side: Side) -> bool
     requires { row_size ≤ length row.now }
     ensures { result ≡ knows_time side row.now }
@@ -44,18 +47,11 @@ fn knows_time(row: &[u8], side: Side) -> bool
     fields::has_seen(side, fields::sides(row)) & (fields::side_time(row, side) != UNKNOWN_TIME)
 }
 
-fn count_of(b: bool) -> usize
-    ensures { (result ≡ count_of b) × (result ≤ 1) }
-{
-    if b { 1 } else { 0 }
-}
-
 // How many times of the row are known: those that are lost on the way back.
+#[tactic(auto, unfolding(crate::specs::Moves::known_times))]
 pub fn known_times(row: &[u8]) -> usize
     requires { row_size ≤ length row.now }
     ensures { (result ≡ known_times row.now) × (result ≤ 2) }
 {
-    let bid = count_of(knows_time(row, Side::Bid));
-    let ask = count_of(knows_time(row, Side::Ask));
-    bid + ask
+    usize::from(knows_time(row, Side::Bid)) + usize::from(knows_time(row, Side::Ask))
 }

@@ -10,6 +10,7 @@ use message::{Side, codes, entry};
 // The version that saving writes, and whose rows a table holds.
 pub const NEWEST: u16 = 3;
 
+#[tactic(auto, unfolding(crate::specs::Rules::entry_keeps))]
 fn entry_keeps(row: &[u8]) -> bool
     requires { row_size ≤ length row.now }
     ensures { result ≡ entry_keeps row.now }
@@ -38,6 +39,7 @@ fn side_keeps(side: Side, row: &[u8]) -> bool
     limits::price_keeps(row, at + 4)
 }
 
+#[tactic(auto, unfolding(crate::specs::Rules::bare_keeps))]
 fn bare_keeps(row: &[u8]) -> bool
     requires { row_size ≤ length row.now }
     ensures { result ≡ bare_keeps row.now }
@@ -45,6 +47,7 @@ fn bare_keeps(row: &[u8]) -> bool
     (fields::sides(row) != 0) | (field::read::<u8>(row, 53) == b' ')
 }
 
+#[tactic(auto, unfolding(crate::specs::Rules::stamp_keeps))]
 fn stamp_keeps(row: &[u8]) -> bool
     requires { row_size ≤ length row.now }
     ensures { result ≡ stamp_keeps row.now }
@@ -52,6 +55,7 @@ fn stamp_keeps(row: &[u8]) -> bool
     limits::time_keeps(row, 98)
 }
 
+#[tactic(auto, unfolding(crate::specs::Rules::spare_keeps))]
 fn spare_keeps(row: &[u8]) -> bool
     requires { row_size ≤ length row.now }
     ensures { result ≡ spare_keeps row.now }
@@ -59,6 +63,7 @@ fn spare_keeps(row: &[u8]) -> bool
     text::only(row, 55, 1, 0) & text::only(row, 122, 2, 0)
 }
 
+#[tactic(auto, unfolding(crate::specs::Rules::common_keeps))]
 fn common_keeps(row: &[u8]) -> bool
     requires { row_size ≤ length row.now }
     ensures { result ≡ common_keeps row.now }
@@ -91,12 +96,11 @@ fn times_keep(version: u16, row: &[u8]) -> bool
     text::only(row, 106, 16, 0)
 }
 
+// Does the row keep them, in an image of that version?
+#[tactic(auto, unfolding(crate::specs::Rules::row_keeps))]
 pub fn keep(version: u16, row: &[u8]) -> bool
     requires { row_size ≤ length row.now }
     ensures { result ≡ row_keeps version row.now }
 {
-    if !common_keeps(row) {
-        return false;
-    }
-    times_keep(version, row)
+    common_keeps(row) && times_keep(version, row)
 }

@@ -1,4 +1,7 @@
 // What a message does to a row, straight from its bytes, which have passed their test.
+//
+// Each function takes the two slices as they were lent: with a struct of both a caller would take the row back out of it, and arrays of the row's
+// and of the letter's length would ask more of callers than these contracts do.
 ghost use Rattle.std.specs.Prelude.{◌≡◌, ◌+◌, ◌≤◌, length, get_or};
 ghost use Rattle.field.specs.Bytes.{part, overlay, bytes_be};
 ghost use Rattle.message.specs.Layout.{bytes_for};
@@ -110,6 +113,7 @@ pub fn put_quote(row: &mut [u8], bytes: &[u8])
 {
     field::write::<u8>(row, 53, field::read::<u8>(bytes, 15));
     put_stamp(row, bytes);
+    // A letter says at once how many sides come and how wide they are, so each has an arm of its own.
     match bytes[0] {
         b'b' => put_short_side(row, Side::Bid, bytes),
         b'a' => put_short_side(row, Side::Ask, bytes),

@@ -6,7 +6,4 @@ use Rattle.block.proofs.column_sum.Given as goal
 
 abbrev pub invariant-loop-strip : goal.invariant-loop-strip
 invariant-loop-strip l =
-    (l.strip ≤ strips) × Runs l.s l.at l.strip l.bytes l.sums × (l.bytes ≤ (strips - l.strip) * 255) × (l.sums ≤ (strips - l.strip) * (strips * 255))
-
-abbrev pub decreases-loop-strip : goal.decreases-loop-strip
-decreases-loop-strip l = l.strip
+    Runs l.s l.at l.strip l.bytes l.sums × (l.bytes ≤ (strips - l.strip) * 255) × (l.sums ≤ (strips - l.strip) * (strips * 255))

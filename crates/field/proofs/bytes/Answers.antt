@@ -1,7 +1,7 @@
 -- `field::bytes` meets its contract.
-use Rattle.std.proofs.Common.{rules, arith, ◌≡◌, ◌+◌, ◌≤◌, length, replicate, zero-add, sym, ◌∙◌, ap}
+use Rattle.std.proofs.Common.{rules, arith, ◌≡◌, length, replicate, zero-add, sym, ◌∙◌}
 use Rattle.std.proofs.lemmas.List.{length-replicate}
-use Rattle.field.specs.Bytes.{part, overlay}
+use Rattle.field.specs.Bytes.{part}
 use Rattle.field.proofs.Parts.{copy-turn, part_none, overlay-none, overlay-whole, part_length}
 use Rattle.field.proofs.bytes.Goals as goal
 

@@ -1,7 +1,4 @@
 -- `field::copy` meets its contract.
-use mathlib.Core.Path.{refl, ◌≡◌}
-use native.Mathlib.Omega.{arith}
-use lib.ListN.{length-set}
 use borrow.Author.Rules.{rules}
 use Rattle.field.proofs.Parts.{copy-turn, part_none, overlay-none}
 use Rattle.field.proofs.copy.Goals as goal

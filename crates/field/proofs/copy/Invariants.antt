@@ -1,7 +1,5 @@
 -- `field::copy` meets its contract.
 use mathlib.Core.Path.{◌≡◌}
-use Prim.Native.Nat.{◌≤◌, ◌-◌}
-use lib.ListN.{length}
 use Rattle.field.specs.Bytes.{part, overlay}
 use Rattle.field.proofs.copy.Given as goal
 

@@ -1,6 +1,4 @@
 -- `field::equal` meets its contract.
-use mathlib.Core.Path.{◌≡◌}
-use native.Mathlib.Omega.{arith}
 use borrow.Author.Rules.{rules}
 use Rattle.field.proofs.Same.{same_none, same_more}
 use Rattle.field.proofs.equal.Goals as goal

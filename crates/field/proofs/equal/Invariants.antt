@@ -1,6 +1,5 @@
 -- `field::equal` meets its contract.
 use mathlib.Core.Path.{◌≡◌}
-use Prim.Native.Nat.{◌≤◌, ◌-◌}
 use Rattle.field.specs.Bytes.{part, same}
 use Rattle.field.proofs.equal.Given as goal
 

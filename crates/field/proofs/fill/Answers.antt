@@ -1,7 +1,4 @@
 -- `field::fill` meets its contract.
-use mathlib.Core.Path.{refl, ◌≡◌}
-use native.Mathlib.Omega.{arith}
-use lib.ListN.{length-set}
 use borrow.Author.Rules.{rules}
 use Rattle.field.proofs.Parts.{fill-turn, overlay-none}
 use Rattle.field.proofs.fill.Goals as goal

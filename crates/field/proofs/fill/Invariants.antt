@@ -1,7 +1,6 @@
 -- `field::fill` meets its contract.
 use mathlib.Core.Path.{◌≡◌}
-use Prim.Native.Nat.{◌≤◌, ◌-◌}
-use lib.ListN.{length, replicate}
+use lib.ListN.{replicate}
 use Rattle.field.specs.Bytes.{overlay}
 use Rattle.field.proofs.fill.Given as goal
 

@@ -1,6 +1,6 @@
 -- `field::put` meets its contract.
-use Rattle.std.proofs.Common.{rules, arith, ◌≡◌, ◌+◌, ◌≤◌, length, zero-add, sym, ◌∙◌, ap}
-use Rattle.field.specs.Bytes.{part, overlay}
+use Rattle.std.proofs.Common.{rules, arith, ◌≡◌, zero-add, ap}
+use Rattle.field.specs.Bytes.{overlay}
 use Rattle.field.proofs.Parts.{copy-turn, part_none, overlay-none, part-whole}
 use Rattle.field.proofs.put.Goals as goal
 

@@ -1,8 +1,6 @@
 -- `packet::is_message` meets its contract.
 use Rattle.packet.proofs.Messages.{message-missing, message-row}
 use Rattle.packet.proofs.is_message.Goals as goal
-use Rattle.std.specs.Prelude.{Some}
-use Rattle.std.specs.Prelude.{None}
 
 pub returns-in-None : goal.returns-in-None
 returns-in-None c = search message-missing

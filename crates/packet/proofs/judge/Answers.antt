@@ -2,7 +2,6 @@
 use borrow.Author.Rules.{rules}
 use Rattle.packet.proofs.Ways.{judge-missing, judge-place, judge-size, judge-fits, judge-meant}
 use Rattle.packet.proofs.judge.Goals as goal
-use Rattle.std.specs.Prelude.{None}
 
 pub returns-then-not-in_place : goal.returns-then-not-in_place
 returns-then-not-in_place c = search (judge-place, rules)
@@ -13,8 +12,8 @@ returns-then-not-of_size c = search (judge-size, rules)
 pub meant-requires : goal.meant-requires
 meant-requires c = search (judge-fits, rules)
 
-pub returns-in-None : goal.returns-in-None
-returns-in-None c = search (judge-missing, rules)
+pub returns-in_default : goal.returns-in_default
+returns-in_default c = search (judge-missing, rules)
 
-pub returns-else-not-of_size : goal.returns-else-not-of_size
-returns-else-not-of_size c = search (judge-meant, rules)
+pub returns : goal.returns
+returns c = search (judge-meant, rules)

@@ -3,11 +3,11 @@ use borrow.Author.Rules.{rules}
 use Rattle.packet.proofs.Ways.{login-bad, login-yes, login-no}
 use Rattle.packet.proofs.login.Goals as goal
 
-pub returns-then-login_follows : goal.returns-then-login_follows
-returns-then-login_follows c = search (login-yes, rules)
-
 pub returns-in-None : goal.returns-in-None
 returns-in-None c = search (login-bad, rules)
 
-pub returns-else-login_follows : goal.returns-else-login_follows
-returns-else-login_follows c = search (login-no, rules)
+pub returns-in-Some : goal.returns-in-Some
+returns-in-Some c = search (login-yes, rules)
+
+pub returns-in-Some-2 : goal.returns-in-Some-2
+returns-in-Some-2 c = search (login-no, rules)

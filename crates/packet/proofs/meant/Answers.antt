@@ -9,8 +9,8 @@ login-requires c = search (login-long, rules)
 pub bounds-body-0 : goal.bounds-body-0
 bounds-body-0 c = search (reason-there, rules)
 
-pub returns-then-none_left : goal.returns-then-none_left
-returns-then-none_left c = search (meant-none, rules)
+pub returns-in-Message : goal.returns-in-Message
+returns-in-Message c = search (meant-none, rules)
 
 pub returns-in-LoginAccepted : goal.returns-in-LoginAccepted
 returns-in-LoginAccepted c = search (meant-login, rules)
@@ -18,5 +18,5 @@ returns-in-LoginAccepted c = search (meant-login, rules)
 pub returns-in-LoginRejected : goal.returns-in-LoginRejected
 returns-in-LoginRejected c = search (meant-rejected, rules)
 
-pub returns-else-none_left : goal.returns-else-none_left
-returns-else-none_left c = search (meant-message, rules)
+pub returns-in-Message-2 : goal.returns-in-Message-2
+returns-in-Message-2 c = search (meant-message, rules)

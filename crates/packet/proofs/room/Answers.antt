@@ -1,10 +1,8 @@
 -- `packet::room` meets its contract.
-use borrow.Author.Rules.{rules}
-use Rattle.packet.proofs.Ways.{room-all, room-rest}
+use native.Mathlib.Omega.{arith}
+use Rattle.packet.specs.Frame.{room_for}
 use Rattle.packet.proofs.room.Goals as goal
 
-pub returns-then-len-free : goal.returns-then-len-free
-returns-then-len-free c = search (room-all, rules)
-
 pub returns : goal.returns
-returns c = search (room-rest, rules)
+unfolding room_for
+returns c = grind arith

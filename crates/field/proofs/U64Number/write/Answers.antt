@@ -1,10 +1,8 @@
 -- `field::Number::write` of a `u64` meets its contract.
-use borrow.Author.Rules.{rules}
-use Rattle.field.proofs.Numbers.{write-zero, write-joins}
+use mathlib.Core.Path.{ap, ◌∙◌}
+use Rattle.field.specs.Bytes.{overlay}
+use Rattle.field.proofs.Numbers.{bytes_high}
 use Rattle.field.proofs.U64Number.write.Goals as goal
 
-pub returns-then-self-eq0 : goal.returns-then-self-eq0
-returns-then-self-eq0 c = search write-zero
-
 pub returns : goal.returns
-returns c = search (write-joins 4 4, rules)
+returns c = c.put.ensures ∙ ap (overlay c.args.out.now c.args.at) (c.to_be_bytes.ensures ∙ bytes_high 8 c.args.self)

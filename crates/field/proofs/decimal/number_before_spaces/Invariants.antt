@@ -1,7 +1,7 @@
 -- `field::decimal::number_before_spaces` meets its contract. The first k characters are digits, and v is what they write.
 use mathlib.Core.Path.{◌≡◌}
 use mathlib.Core.Bool.{true}
-use Prim.Native.Nat.{◌-◌, ◌≤◌}
+use Prim.Native.Nat.{◌≤◌}
 use Rattle.field.specs.Bytes.{part}
 use Rattle.field.specs.Limits.{highest_number}
 use Rattle.field.specs.Text.{every, is_digit}

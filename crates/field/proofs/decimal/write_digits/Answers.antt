@@ -1,6 +1,4 @@
 -- `field::decimal::write_digits` meets its contract. The digits from i on are written, and `rest` has those before them.
-use mathlib.Core.Path.{refl}
-use lib.ListN.{length-set}
 use borrow.Author.Rules.{rules}
 use Rattle.field.proofs.Decimals.{rest-turn, write-turn, rest-none-yet, write-none-yet, write-all}
 use Rattle.field.proofs.decimal.write_digits.Goals as goal

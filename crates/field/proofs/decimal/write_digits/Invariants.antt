@@ -1,7 +1,6 @@
 -- `field::decimal::write_digits` meets its contract. The digits from i on are written, and `rest` has those before them.
 use mathlib.Core.Path.{◌≡◌}
-use Prim.Native.Nat.{◌+◌, ◌-◌, ◌/◌, ◌^◌, ◌≤◌}
-use lib.ListN.{length}
+use Prim.Native.Nat.{◌+◌, ◌-◌, ◌/◌, ◌^◌}
 use Rattle.field.specs.Bytes.{overlay}
 use Rattle.field.specs.Decimal.{digit_chars}
 use Rattle.field.proofs.decimal.write_digits.Given as goal

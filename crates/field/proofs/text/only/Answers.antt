@@ -1,6 +1,4 @@
 -- `field::text::only` meets its contract.
-use mathlib.Core.Path.{◌≡◌}
-use native.Mathlib.Omega.{arith}
 use borrow.Author.Rules.{rules}
 use Rattle.field.proofs.Same.{every-none, every_more}
 use Rattle.field.proofs.text.only.Goals as goal

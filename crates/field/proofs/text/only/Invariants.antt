@@ -1,6 +1,5 @@
 -- `field::text::only` meets its contract.
 use mathlib.Core.Path.{◌≡◌}
-use Prim.Native.Nat.{◌≤◌, ◌-◌}
 use Rattle.field.specs.Bytes.{part}
 use Rattle.field.specs.Text.{every, within}
 use Rattle.field.proofs.text.only.Given as goal
