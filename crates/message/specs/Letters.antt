@@ -208,7 +208,25 @@ trading_action_of vs = record { stamp = stamp_of vs; id = number_at vs 2; state 
 abbrev pub trading_action_fields : TradingAction → List Value
 trading_action_fields m = stamp_fields m.stamp ++ (num m.id ∷ num m.state ∷ [])
 
--- the numbers of a side, at either width
+-- a side, a quote and a quote of one side, in numbers of two bytes and of four: as numbers they are the same records, and the messages that hold them differ
+abbrev pub ShortNumbers : Type 0
+ShortNumbers = SideNumbers ℕ
+
+abbrev pub LongNumbers : Type 0
+LongNumbers = SideNumbers ℕ
+
+abbrev pub ShortQuote : Type 0
+ShortQuote = Quote ℕ
+
+abbrev pub LongQuote : Type 0
+LongQuote = Quote ℕ
+
+abbrev pub ShortSide : Type 0
+ShortSide = OneSide ℕ
+
+abbrev pub LongSide : Type 0
+LongSide = OneSide ℕ
+
 abbrev pub numbers_of : List Value → SideNumbers ℕ
 numbers_of vs =
     record {
