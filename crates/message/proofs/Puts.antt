@@ -13,7 +13,7 @@ use borrow.Rule.Slice.PartMut.{put_mid}
 use Rattle.field.proofs.Parts.{part_length, part-whole, part-back, overlay-length, overlay-whole}
 use Rattle.field.proofs.Numbers.{digits-length, Lent, lent-bytes}
 use Rattle.field.proofs.Decimals.{before-length, count_most}
-use Rattle.field.proofs.Writes.{piece, run-joined, carried-run}
+use Rattle.field.proofs.Writes.{piece, run-joined}
 use Rattle.message.specs.Layout.{amount, bytes_for, values}
 use Rattle.message.specs.Letters.{stamp_rows, stamp_fields, system_event_rows, system_event_fields, instrument_rows, instrument_fields, directory_rows, directory_fields, quote_rows, quote_fields, numbers_rows, numbers_fields, numbers_of, long_numbers_rows, whole_quote_rows, whole_quote_fields, one_side_rows, one_side_fields, end_of_replay_rows, end_of_replay_fields, entry_size, system_event_letter, directory_letter, end_of_replay_letter}
 use Rattle.message.proofs.Layouts.{fields-run}
@@ -79,13 +79,11 @@ numbers-length w keeps at n =
     simp (length-append, l) (omega arith)
 
 -- carried from other bytes, with no number taken
-pub long-carried : (xs bs : List ℕ) (at from : ℕ) {us vs zs : List ℕ} → Lent bs → from + 20 ≤ length bs → at + 20 ≤ length xs
-    → us ≡ overlay xs at (part bs from 8) → vs ≡ overlay us (at + 8) (part bs (from + 8) 8) → zs ≡ overlay vs (at + 16) (part bs (from + 16) 4)
+pub long-carried : (xs bs : List ℕ) (at from : ℕ) {zs : List ℕ} → Lent bs → from + 20 ≤ length bs → zs ≡ overlay xs at (part bs from 20)
     → zs ≡ overlay xs at (bytes_for (long_numbers_rows at) (numbers_fields (numbers_of (values (long_numbers_rows from) bs))))
 unfolding values bytes_for
-long-carried xs bs at from {us} {vs} {zs} k h g e f i =
-    carried-run bs from xs at 8 (8 ∷ 4 ∷ []) h g e (vs, f, (zs, i, refl))
-    ∙ ap (overlay xs at) (sym (fields-run (long_numbers_rows from) bs from (refl, refl, (refl, refl, (omega arith, refl, (omega arith, refl, (omega arith, refl, tt))))) (lent-bytes bs k) h))
+long-carried xs bs at from k h e =
+    e ∙ ap (overlay xs at) (sym (fields-run (long_numbers_rows from) bs from (refl, refl, (refl, refl, (omega arith, refl, (omega arith, refl, (omega arith, refl, tt))))) (lent-bytes bs k) h))
 
 -- ---- an instrument
 

@@ -38,7 +38,5 @@ pub fn carry_long(bytes: &[u8], from: usize, out: &mut [u8], at: usize)
     requires { (from + 20 ≤ length bytes.now) × (at + 20 ≤ length out.old) }
     ensures { out.new ≡ overlay out.old at (bytes_for (long_numbers_rows at) (numbers_fields (numbers_of (values (long_numbers_rows from) bytes.now)))) }
 {
-    field::carry::<8>(bytes, from, out, at);
-    field::carry::<8>(bytes, from + 8, out, at + 8);
-    field::carry::<4>(bytes, from + 16, out, at + 16);
+    field::carry::<20>(bytes, from, out, at);
 }

@@ -214,14 +214,6 @@ terms-moved xs bs {us} {vs} {ys} {zs} k h l e f g j =
     moved 63 (take 5 instrument_rows) (take 5 instrument_places) bs xs refl h k
     (us, e, (vs, f, (overlay vs 68 (part bs 23 1), refl, (ys, pair vs bs 68 23 (omega arith) (omega arith) g, (zs, j, refl)))))
 
-pub underlying-moved : (xs bs : List ℕ) {us vs zs : List ℕ} → 63 ≤ length bs → record_size ≤ length xs → us ≡ overlay xs 83 (part bs 31 8)
-    → vs ≡ overlay us 91 (part bs 39 4) → zs ≡ overlay vs 95 (part bs 43 1) → zs ≡ overlay xs 83 (part bs 31 13)
-underlying-moved xs bs {us} {vs} {zs} h g e f i = carried-run bs 31 xs 83 8 (4 ∷ 1 ∷ []) (omega arith) (omega arith) e (vs, f, (zs, i, refl))
-
-pub reserved-moved : (xs bs : List ℕ) {us zs : List ℕ} → 63 ≤ length bs → record_size ≤ length xs → us ≡ overlay xs 96 (part bs 47 8)
-    → zs ≡ overlay us 104 (part bs 55 8) → zs ≡ overlay xs 96 (part bs 47 16)
-reserved-moved xs bs {us} {zs} h g e f = carried-run bs 47 xs 96 8 (8 ∷ []) (omega arith) (omega arith) e (zs, f, refl)
-
 pub middle-moved : (xs bs : List ℕ) {us vs zs : List ℕ} → Lent bs → 63 ≤ length bs → us ≡ overlay xs 64 (part bs 26 4) → vs ≡ overlay us 71 (part bs 30 1)
     → zs ≡ overlay vs 83 (part bs 31 13) → zs ≡ laid (take 3 (drop 5 instrument_places)) (values (take 3 (drop 5 instrument_rows)) bs) xs
 unfolding paired

@@ -89,15 +89,6 @@ fn terms(kept: &[u8], out: &mut [u8])
     field::carry::<1>(kept, 70, out, 25);
 }
 
-fn underlying(kept: &[u8], out: &mut [u8])
-    requires { (length kept.now ≡ record_size) × (63 ≤ length out.old) }
-    ensures { out.new ≡ overlay out.old 31 (part kept.now 83 13) }
-{
-    field::carry::<8>(kept, 83, out, 31);
-    field::carry::<4>(kept, 91, out, 39);
-    field::carry::<1>(kept, 95, out, 43);
-}
-
 // Strike, option type and underlying.
 fn middle(kept: &[u8], out: &mut [u8])
     requires { (length kept.now ≡ record_size) × (63 ≤ length out.old) }
@@ -105,15 +96,7 @@ fn middle(kept: &[u8], out: &mut [u8])
 {
     field::carry::<4>(kept, 64, out, 26);
     field::carry::<1>(kept, 71, out, 30);
-    underlying(kept, out);
-}
-
-fn reserved(kept: &[u8], out: &mut [u8])
-    requires { (length kept.now ≡ record_size) × (63 ≤ length out.old) }
-    ensures { out.new ≡ overlay out.old 47 (part kept.now 96 16) }
-{
-    field::carry::<8>(kept, 96, out, 47);
-    field::carry::<8>(kept, 104, out, 55);
+    field::carry::<13>(kept, 83, out, 31);
 }
 
 // Closing type, tradable, variation and reserved.
@@ -124,7 +107,7 @@ fn marks(kept: &[u8], out: &mut [u8])
     field::carry::<1>(kept, 72, out, 44);
     field::carry::<1>(kept, 73, out, 45);
     field::carry::<1>(kept, 74, out, 46);
-    reserved(kept, out);
+    field::carry::<16>(kept, 96, out, 47);
 }
 
 fn directory(kept: &[u8], out: &mut [u8])

@@ -84,15 +84,6 @@ fn terms(bytes: &[u8], out: &mut [u8])
     field::carry::<1>(bytes, 25, out, 70);
 }
 
-fn underlying(bytes: &[u8], out: &mut [u8])
-    requires { (63 ≤ length bytes.now) × (record_size ≤ length out.old) }
-    ensures { out.new ≡ overlay out.old 83 (part bytes.now 31 13) }
-{
-    field::carry::<8>(bytes, 31, out, 83);
-    field::carry::<4>(bytes, 39, out, 91);
-    field::carry::<1>(bytes, 43, out, 95);
-}
-
 // Strike, option type and underlying.
 fn middle(bytes: &[u8], out: &mut [u8])
     requires { (63 ≤ length bytes.now) × (record_size ≤ length out.old) }
@@ -100,15 +91,7 @@ fn middle(bytes: &[u8], out: &mut [u8])
 {
     field::carry::<4>(bytes, 26, out, 64);
     field::carry::<1>(bytes, 30, out, 71);
-    underlying(bytes, out);
-}
-
-fn reserved(bytes: &[u8], out: &mut [u8])
-    requires { (63 ≤ length bytes.now) × (record_size ≤ length out.old) }
-    ensures { out.new ≡ overlay out.old 96 (part bytes.now 47 16) }
-{
-    field::carry::<8>(bytes, 47, out, 96);
-    field::carry::<8>(bytes, 55, out, 104);
+    field::carry::<13>(bytes, 31, out, 83);
 }
 
 // Closing type, tradable, variation and reserved.
@@ -118,7 +101,7 @@ fn marks(bytes: &[u8], out: &mut [u8])
 {
     field::carry::<2>(bytes, 44, out, 72);
     field::carry::<1>(bytes, 46, out, 74);
-    reserved(bytes, out);
+    field::carry::<16>(bytes, 47, out, 96);
 }
 
 fn directory(bytes: &[u8], out: &mut [u8])
