@@ -7,7 +7,6 @@ use Prim.Native.Nat.{ℕ, ◌+◌, ◌*◌}
 use Rattle.field.specs.Bytes.{part, be}
 use Rattle.message.specs.Layout.{price_by, price_from, values}
 use Rattle.message.specs.Letters.{numbers_rows, numbers_of, map_numbers}
-use Rattle.message.specs.declared.SideNumbers.{SideNumbers}
 use Rattle.message.proofs.Amounts.{by-from}
 use Rattle.std.specs.Prelude.{Option, option_map}
 

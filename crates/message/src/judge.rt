@@ -8,7 +8,8 @@ ghost use Rattle.message.specs.Feed.{Sized};
 ghost use Rattle.message.specs.Letters.{listed, conditions, no_texts, letters, letter_in, directory_letter, directory_rows, system_event_letter, system_event_rows, trading_action_letter, trading_action_rows, quote_letter, whole_quote_rows, side_letter, one_side_rows, end_of_replay_letter, end_of_replay_rows};
 ghost use Rattle.message.specs.Message.{accepted, read_fields};
 
-use crate::{Message, Reading, Refusal, Side, entry, lengths, rules, take, width::Width};
+use crate::width::Width;
+use crate::{Message, Reading, Refusal, Side, entry, lengths, rules, take};
 
 // A message that has no texts, read whole.
 fn whole(m: Message) -> Reading
@@ -65,7 +66,7 @@ fn keep_head(bytes: &[u8]) -> bool
     rules::keep_head(take::time(bytes), take::condition(bytes))
 }
 
-// And the rule of its price, of w bytes from `at` on.
+// The rule of a price, tested where it lies.
 fn keep_price<T: Width>(bytes: &[u8], at: usize) -> bool
     requires { at + T.width ≤ length bytes.now }
     ensures { result ≡ T.form.keeps (be (part bytes.now at T.width)) }

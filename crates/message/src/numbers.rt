@@ -4,7 +4,8 @@ ghost use Rattle.field.specs.Bytes.{overlay};
 ghost use Rattle.message.specs.Layout.{values, bytes_for};
 ghost use Rattle.message.specs.Letters.{numbers_rows, numbers_of, numbers_fields, map_numbers, long_numbers_rows};
 
-use crate::{SideNumbers, prices, width::Width};
+use crate::width::Width;
+use crate::{SideNumbers, prices};
 
 pub fn read<T: Width>(bytes: &[u8], at: usize) -> SideNumbers<T>
     requires { at + 5 * T.width ≤ length bytes.now }
@@ -25,9 +26,8 @@ pub fn put<T: Width>(out: &mut [u8], at: usize, n: SideNumbers<T>)
     ensures { out.new ≡ overlay out.old at (bytes_for (numbers_rows T.width T.form.keeps at) (numbers_fields (map_numbers T.number n))) }
 {
     let size = T::size();
-    let price = n.price;
     field::write::<T>(out, at, n.market);
-    field::write::<T>(out, at + size, prices::amount(price));
+    field::write::<T>(out, at + size, prices::amount(n.price));
     field::write::<T>(out, at + 2 * size, n.size);
     field::write::<T>(out, at + 3 * size, n.customer);
     field::write::<T>(out, at + 4 * size, n.professional);

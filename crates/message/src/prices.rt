@@ -2,7 +2,8 @@
 ghost use Rattle.std.specs.Prelude.{◌≡◌, option_map};
 ghost use Rattle.message.specs.Layout.{price_by, amount, priced, price, holds};
 
-use crate::{SideNumbers, width::Width};
+use crate::SideNumbers;
+use crate::width::Width;
 
 pub fn price<T: Width>(n: T) -> Option<T>
     ensures { result ≡ price_by T.number n }
@@ -26,8 +27,7 @@ pub fn amount<T: Width>(p: Option<T>) -> T
 pub fn keep<T: Width>(side: SideNumbers<T>) -> bool
     ensures { result ≡ holds (price T.form.keeps) (priced (option_map T.number side.price)) }
 {
-    let price = side.price;
-    match price {
+    match side.price {
         Some(n) => (1 <= n.value()) & n.keeps(),
         None => true,
     }

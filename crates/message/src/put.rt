@@ -5,7 +5,11 @@ ghost use Rattle.message.specs.Layout.{bytes_for};
 ghost use Rattle.message.specs.Letters.{letter_for, stamp_rows, stamp_fields, system_event_rows, system_event_fields, directory_rows, directory_fields, quote_rows, quote_fields, trading_action_rows, trading_action_fields, whole_quote_rows, whole_quote_fields, one_side_rows, one_side_fields, map_quote, map_side, end_of_replay_rows, end_of_replay_fields, directory_letter, end_of_replay_letter, system_event_letter, trading_action_letter};
 ghost use Rattle.message.specs.Message.{bytes_of};
 
-use crate::{Directory, EndOfReplay, Message, OneSide, Quote, Stamp, SystemEvent, Texts, TradingAction, entry, lengths, numbers, width::Width};
+use crate::width::Width;
+use crate::{
+    Directory, EndOfReplay, Message, OneSide, Quote, Stamp, SystemEvent, Texts, TradingAction,
+    entry, lengths, numbers,
+};
 use field::decimal;
 
 // The letter and the stamp: eleven bytes.
@@ -59,22 +63,17 @@ fn quote<T: Width>(out: &mut [u8], m: Quote<T>)
     requires { 16 + 10 * T.width ≤ length out.old }
     ensures { out.new ≡ overlay out.old 0 (T.form.quote_code ∷ bytes_for (whole_quote_rows T.width T.form.keeps) (whole_quote_fields (map_quote T.number m))) }
 {
-    let s = m.stamp;
-    let bid = m.bid;
-    let ask = m.ask;
-    head(out, T::quote_code(), s, m.id, m.condition);
-    numbers::put(out, 16, bid);
-    numbers::put(out, 16 + 5 * T::size(), ask);
+    head(out, T::quote_code(), m.stamp, m.id, m.condition);
+    numbers::put(out, 16, m.bid);
+    numbers::put(out, 16 + 5 * T::size(), m.ask);
 }
 
 fn side<T: Width>(out: &mut [u8], m: OneSide<T>)
     requires { 16 + 5 * T.width ≤ length out.old }
     ensures { out.new ≡ overlay out.old 0 (T.form.side_code m.side ∷ bytes_for (one_side_rows T.width T.form.keeps) (one_side_fields (map_side T.number m))) }
 {
-    let s = m.stamp;
-    let numbers = m.numbers;
-    head(out, T::side_code(m.side), s, m.id, m.condition);
-    numbers::put(out, 16, numbers);
+    head(out, T::side_code(m.side), m.stamp, m.id, m.condition);
+    numbers::put(out, 16, m.numbers);
 }
 
 fn end_of_replay(out: &mut [u8], m: EndOfReplay)

@@ -5,7 +5,11 @@ ghost use Rattle.message.specs.Layout.{keeps_all};
 ghost use Rattle.message.specs.Letters.{listed, conditions, system_event_rows, system_event_fields, directory_rows, directory_fields, trading_action_rows, trading_action_fields, whole_quote_rows, whole_quote_fields, one_side_rows, one_side_fields, map_quote, map_side, end_of_replay_rows, end_of_replay_fields};
 ghost use Rattle.message.specs.Message.{keeps};
 
-use crate::{Directory, EndOfReplay, Message, OneSide, Quote, SystemEvent, Texts, TradingAction, codes, entry, prices, width::Width};
+use crate::width::Width;
+use crate::{
+    Directory, EndOfReplay, Message, OneSide, Quote, SystemEvent, Texts, TradingAction, codes,
+    entry, prices,
+};
 use field::limits;
 
 // The rules that every quote has.
@@ -37,16 +41,13 @@ pub fn keep_trading_action(m: TradingAction) -> bool
 pub fn keep_quote<T: Width>(m: Quote<T>) -> bool
     ensures { result ≡ keeps_all (whole_quote_rows T.width T.form.keeps) (whole_quote_fields (map_quote T.number m)) }
 {
-    let bid = m.bid;
-    let ask = m.ask;
-    keep_head(m.stamp.time, m.condition) & (prices::keep(bid) & prices::keep(ask))
+    keep_head(m.stamp.time, m.condition) & (prices::keep(m.bid) & prices::keep(m.ask))
 }
 
 pub fn keep_side<T: Width>(m: OneSide<T>) -> bool
     ensures { result ≡ keeps_all (one_side_rows T.width T.form.keeps) (one_side_fields (map_side T.number m)) }
 {
-    let numbers = m.numbers;
-    keep_head(m.stamp.time, m.condition) & prices::keep(numbers)
+    keep_head(m.stamp.time, m.condition) & prices::keep(m.numbers)
 }
 
 pub fn keep_end_of_replay(m: EndOfReplay) -> bool

@@ -4,7 +4,11 @@ ghost use Rattle.field.specs.Bytes.{part, be};
 ghost use Rattle.message.specs.Layout.{values};
 ghost use Rattle.message.specs.Letters.{stamp_rows, stamp_of, system_event_rows, system_event_of, directory_rows, directory_of, trading_action_rows, trading_action_of, whole_quote_rows, whole_quote_of, one_side_rows, one_side_of, map_quote, map_side, end_of_replay_rows, end_of_replay_of, directory_letter, end_of_replay_letter, system_event_letter, trading_action_letter};
 
-use crate::{Directory, EndOfReplay, OneSide, Quote, Side, Stamp, SystemEvent, TradingAction, entry, lengths, numbers, width::Width};
+use crate::width::Width;
+use crate::{
+    Directory, EndOfReplay, OneSide, Quote, Side, Stamp, SystemEvent, TradingAction, entry,
+    lengths, numbers,
+};
 use field::decimal;
 
 pub fn time(bytes: &[u8]) -> u64

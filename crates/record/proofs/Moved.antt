@@ -10,11 +10,10 @@ use native.Mathlib.Omega.{arith}
 use borrow.Author.Tests.{leb-true, eqb-true}
 use lib.Dec.{leb, eqb}
 use lib.ListN.{length, take, drop, get_or}
-use Rattle.field.specs.Bytes.{part, overlay, be, digits, bytes_be, Bytes}
+use Rattle.field.specs.Bytes.{part, overlay, be, bytes_be, Bytes}
 use Rattle.field.specs.Limits.{price_in_range}
 use Rattle.field.specs.Decimal.{chars_then_spaces}
 use Rattle.field.proofs.Bools.{both_left, both_right}
-use Rattle.field.proofs.Parts.{overlay-length}
 use Rattle.field.proofs.Numbers.{Lent, lent-bytes, rewrites, carried}
 use Rattle.field.proofs.Writes.{carried-run}
 use Rattle.message.specs.Layout.{Value, num, raw, priced, Rule, binary, decimal, text, bytes, price, Row, value_in, bytes_in, values, bytes_for}
@@ -22,10 +21,8 @@ use Rattle.message.specs.Letters.{letters, letter_in, end_of_replay_rows, end_of
 use Rattle.message.specs.declared.SideNumbers.{SideNumbers}
 use Rattle.message.proofs.Layouts.{never, plain, fields-run}
 use Rattle.message.proofs.Puts.{numbers-put}
-use Rattle.message.proofs.Typed.{inside}
 use Rattle.record.specs.Places.{record_size, letter_place, stamp_places, instrument_places, directory_places, end_of_replay_places, record_letters, head_places, system_event_places, low_places, side_places}
 use Rattle.record.specs.Record.{laid, laid_from, laid_back}
-use Rattle.record.proofs.Laid.{laid-length}
 
 -- a rule writes a value as it is, but for numbers in characters
 as-it-is : (r : Rule) (w : ℕ) (v : Value) → plain r ≡ true → bytes_in r w v ≡ bytes_in bytes w v

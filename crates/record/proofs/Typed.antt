@@ -16,8 +16,6 @@ use Rattle.message.specs.Layout.{values, keeps_all, numbered}
 use Rattle.message.specs.Feed.{Letter}
 use Rattle.message.specs.Letters.{Content, letter_in, letter_for, unlisted, fields_of}
 use Rattle.message.specs.Message.{keeps, Typed}
-use Rattle.message.specs.declared.Side.{Side}
-use Rattle.message.specs.declared.Side.TheVariants.{Bid, Ask}
 use Rattle.message.specs.declared.Message.{Message}
 use Rattle.message.specs.declared.Message.TheVariants as message
 use Rattle.message.specs.declared.Texts.{Texts}

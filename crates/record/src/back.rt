@@ -9,9 +9,11 @@ ghost use Rattle.record.specs.Places.{record_size, letter_place, stamp_places, i
 ghost use Rattle.record.specs.Record.{laid, laid_back, is_own, clear};
 
 use field::{limits, text};
-use message::{Side, codes, entry, numbers, width::Width};
+use message::width::Width;
+use message::{Side, codes, entry, numbers};
 
 // ---- the fields, each moved to its place in the message
+// They are the moves of `wire` the other way. One function of both would be handed each move's two places and its width, which is all that these say.
 
 // The letter and the stamp.
 fn stamp(kept: &[u8], out: &mut [u8])

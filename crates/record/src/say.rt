@@ -5,8 +5,12 @@ ghost use Rattle.message.specs.Letters.{letter_in, no_texts, stamp_of, numbers_o
 ghost use Rattle.record.specs.Places.{record_size, stamp_places, side_places, system_event_places, instrument_places, directory_places, head_places, whole_quote_places, one_side_places, end_of_replay_places, record_letter, record_letters};
 ghost use Rattle.record.specs.Record.{held, said_by};
 
-use crate::{Held};
-use message::{Directory, EndOfReplay, Instrument, Message, OneSide, Quote, Side, SideNumbers, Stamp, SystemEvent, Texts, TradingAction, prices, width::Width};
+use crate::Held;
+use message::width::Width;
+use message::{
+    Directory, EndOfReplay, Instrument, Message, OneSide, Quote, Side, SideNumbers, Stamp,
+    SystemEvent, Texts, TradingAction, prices,
+};
 
 fn stamp(bytes: &[u8]) -> Stamp
     requires { record_size ≤ length bytes.now }

@@ -7,7 +7,8 @@ ghost use Rattle.record.specs.Places.{record_size, letter_place, stamp_places, i
 ghost use Rattle.record.specs.Record.{laid, laid_from};
 ghost use Rattle.message.specs.Feed.{Sized};
 
-use message::{Side, numbers, width::Width};
+use message::width::Width;
+use message::{Side, numbers};
 
 // The letter and the stamp.
 fn stamp(bytes: &[u8], out: &mut [u8])

@@ -1,5 +1,5 @@
 -- `message::prices::keep` meets its contract.
-use Rattle.message.proofs.Amounts.{above-keeps, none-keeps}
+use Rattle.message.proofs.Amounts.{none-keeps}
 use Rattle.message.proofs.prices.keep.Goals as goal
 
 pub returns-in-None : goal.returns-in-None
