@@ -46,7 +46,7 @@ pub fn price(row: &[u8], side: Side) -> Option<u32>
     requires { row_size ≤ length row.now }
     ensures { result ≡ price_of side row.now }
 {
-    prices::long(field::read::<u32>(row, side_at(side) + 4))
+    prices::price(field::read::<u32>(row, side_at(side) + 4))
 }
 
 // Where the time of the latest message that set a side stands.
