@@ -5,12 +5,10 @@ ghost use Rattle.message.specs.Letters.{listed, event_codes, option_types, closi
 pub fn is_listed(code: u8, list: &[u8]) -> bool
     ensures { result ≡ listed list.now code }
 {
-    let mut i = 0;
-    while i < list.len() {
-        if list[i] == code {
+    for c in list {
+        if *c == code {
             return true;
         }
-        i += 1;
     }
     false
 }

@@ -1,6 +1,6 @@
 // The letters of the feed, each with its exact length: one list, for reading and writing.
 ghost use Rattle.std.specs.Prelude.{◌≡◌};
-ghost use Rattle.message.specs.Feed.{length_in};
+ghost use Rattle.message.specs.Feed.{length_in, listed_length};
 ghost use Rattle.message.specs.Letters.{letters, letter_in, letter_for};
 
 use crate::Message;
@@ -60,10 +60,13 @@ pub fn length_in(table: &[u8], letter: u8) -> usize
     0
 }
 
-pub fn length_of(letter: u8) -> usize
-    ensures { result ≡ (letter_in letters letter).size }
+pub fn length_of(letter: u8) -> Option<usize>
+    ensures { result ≡ listed_length (letter_in letters letter) }
 {
-    length_in(&LENGTHS, letter)
+    match length_in(&LENGTHS, letter) {
+        0 => None,
+        size => Some(size),
+    }
 }
 
 pub fn length_for(message: Message) -> usize
