@@ -82,7 +82,7 @@ fn fields_keep(letter: u8, bytes: &[u8]) -> bool
     }
 }
 
-// The length of a letter that is no quote's, 0 for one that is not listed.
+// The length of a letter that is no quote's; none for one that is not listed.
 fn rare_length(letter: u8) -> Option<usize>
     requires { quote_length letter ≡ 0 }
     ensures { result ≡ listed_length (letter_in letters letter) }
