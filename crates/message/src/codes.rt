@@ -1,4 +1,4 @@
-// The one-letter codes of the feed.
+// The one-letter codes of the feed: a function for each list, whose clause names the list of the definitions, and one that looks a code up.
 ghost use Rattle.std.specs.Prelude.{◌≡◌};
 ghost use Rattle.message.specs.Letters.{listed, event_codes, option_types, closings, tradables, variations, states, conditions};
 
