@@ -23,7 +23,7 @@ use Rattle.message.specs.declared.Refusal.{Refusal}
 use Rattle.message.specs.declared.Refusal.TheVariants.{UnknownLetter, WrongLength, BadField}
 use Rattle.std.specs.Prelude.{Result, Ok, Err, Option, Some, None}
 use Rattle.message.proofs.Layouts.{read-as-numbers, rows_in, values-in-part}
-use Rattle.message.proofs.Feeds.{found, unlisted_length}
+use Rattle.message.proofs.Feeds.{found, unlisted_length, has-length, has-none}
 use Rattle.message.proofs.Table.{room}
 use Rattle.message.proofs.Ways.{entry-values}
 
@@ -49,10 +49,11 @@ module _ (l : Letter Content) (bs : List ℕ) where
 
 -- ---- the six letters of quotes
 
-pub quote-none : (c : ℕ) → (c ≡ 113 → ⊥) → (c ≡ 81 → ⊥) → (c ≡ 98 → ⊥) → (c ≡ 97 → ⊥) → (c ≡ 66 → ⊥) → (c ≡ 65 → ⊥) → 0 ≡ quote_length c
-unfolding quote_length quote_letters
+pub quote-none : (c : ℕ) → (c ≡ 113 → ⊥) → (c ≡ 81 → ⊥) → (c ≡ 98 → ⊥) → (c ≡ 97 → ⊥) → (c ≡ 66 → ⊥) → (c ≡ 65 → ⊥)
+    → None ≡ listed_length (letter_in quote_letters c)
+unfolding quote_letters
 quote-none c n1 n2 n3 n4 n5 n6 =
-    found unlisted (λ (l : Letter Content). 0 ≡ l.size) c quote_letters refl
+    found unlisted (λ (l : Letter Content). None ≡ listed_length l) c quote_letters refl
     ((λ e. absurd (n1 (sym e)))
     also (λ e. absurd (n2 (sym e)))
     also (λ e. absurd (n3 (sym e)))
@@ -61,8 +62,18 @@ quote-none c n1 n2 n3 n4 n5 n6 =
     also (λ e. absurd (n6 (sym e)))
     also tt)
 
-pub quote-arm : (k n c : ℕ) → c ≡ k → n ≡ quote_length k → n ≡ quote_length c
+pub quote-arm : (k n c : ℕ) → c ≡ k → Some n ≡ listed_length (letter_in quote_letters k) → Some n ≡ listed_length (letter_in quote_letters c)
 quote-arm k n c e p = rw e p
+
+-- a letter is a quote's, with its length, or it is none
+module _ (c : ℕ) {x : Option ℕ} (p : x ≡ listed_length (letter_in quote_letters c)) where
+  pub is-quote : {n : ℕ} → x ≡ Some n → (n ≡ quote_length c) × (n ≡ 0 → ⊥)
+  unfolding quote_length
+  is-quote q = has-length (letter_in quote_letters c) p q
+
+  pub no-quote : x ≡ None → quote_length c ≡ 0
+  unfolding quote_length
+  no-quote q = has-none (letter_in quote_letters c) p q
 
 -- what each of them is: a letter of the feed, with room for its prices, and three rules
 pub record Quotes (bs : List ℕ) (c : ℕ) (l : Letter Content) : Type 0 where

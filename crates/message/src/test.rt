@@ -4,7 +4,7 @@ ghost use Rattle.message.specs.Layout.{values, keeps_all};
 ghost use Rattle.message.specs.Letters.{letters, letter_in, end_of_replay_rows, end_of_replay_of};
 ghost use Rattle.message.specs.Feed.{Sized, listed_length};
 ghost use Rattle.message.specs.Message.{read_as, read_of};
-ghost use Rattle.message.specs.Test.{tested, checked, number_in, quote_length, prices_keep};
+ghost use Rattle.message.specs.Test.{tested, checked, number_in, quote_letters, quote_length, prices_keep};
 
 use crate::{Refusal, codes, entry, lengths, take};
 use field::limits;
@@ -17,18 +17,18 @@ pub fn number(bytes: &[u8]) -> u64
     take::end_of_replay(&bytes[0..21]).number
 }
 
-// The length of a quote's letter, 0 for any other letter.
-pub fn quote_length(letter: u8) -> usize
-    ensures { result ≡ quote_length letter }
+// The length of a quote's letter; none for any other letter.
+pub fn quote_length(letter: u8) -> Option<usize>
+    ensures { result ≡ listed_length (letter_in quote_letters letter) }
 {
     match letter {
-        b'q' => lengths::SHORT_QUOTE,
-        b'Q' => lengths::LONG_QUOTE,
-        b'b' => lengths::SHORT_SIDE,
-        b'a' => lengths::SHORT_SIDE,
-        b'B' => lengths::LONG_SIDE,
-        b'A' => lengths::LONG_SIDE,
-        _ => 0,
+        b'q' => Some(lengths::SHORT_QUOTE),
+        b'Q' => Some(lengths::LONG_QUOTE),
+        b'b' => Some(lengths::SHORT_SIDE),
+        b'a' => Some(lengths::SHORT_SIDE),
+        b'B' => Some(lengths::LONG_SIDE),
+        b'A' => Some(lengths::LONG_SIDE),
+        _ => None,
     }
 }
 
@@ -133,9 +133,8 @@ pub fn message(bytes: &[u8]) -> u32
         return 10;
     }
     let letter = bytes[0];
-    let size = quote_length(letter);
-    if size == 0 {
-        return number_of(rarer(letter, bytes));
+    match quote_length(letter) {
+        Some(size) => number_of(quote(letter, size, bytes)),
+        None => number_of(rarer(letter, bytes)),
     }
-    number_of(quote(letter, size, bytes))
 }
