@@ -1,7 +1,9 @@
 -- `message::test::quote_length` meets its contract.
 use mathlib.Core.Path.{refl}
 use Rattle.message.specs.Feed.{letter_among}
-use Rattle.message.specs.Test.{quote_letters}
+use Rattle.message.specs.Letters.{letter_in}
+use Rattle.message.specs.Test.{quote_length, quote_letters}
+use Rattle.message.proofs.Feeds.{unlisted_length}
 use Rattle.message.proofs.Tested.{quote-arm, quote-none}
 use Rattle.message.proofs.test.quote_length.Goals as goal
 
@@ -30,4 +32,7 @@ unfolding quote_letters letter_among
 returns-in-65 c = quote-arm 65 36 _ c.in-65.is refl
 
 pub returns-in_default : goal.returns-in_default
-returns-in_default c = let r = c.in_default.in_default-own.rest in quote-none _ r.0.0.0.0.0.1 r.0.0.0.0.1 r.0.0.0.1 r.0.0.1 r.0.1 r.1
+unfolding quote_length
+returns-in_default c =
+    let r = c.in_default.in_default-own.rest in
+    unlisted_length (letter_in quote_letters _) (quote-none _ r.0.0.0.0.0.1 r.0.0.0.0.1 r.0.0.0.1 r.0.0.1 r.0.1 r.1) refl
