@@ -8,6 +8,7 @@ ghost use Rattle.message.specs.Letters.{letters, letter_in, listed, conditions, 
 ghost use Rattle.record.specs.Places.{record_size, letter_place, stamp_places, instrument_places, directory_places, end_of_replay_places, head_places, system_event_places, side_places, high_places, whole_quote_places, one_side_places, record_letters};
 ghost use Rattle.record.specs.Record.{laid, laid_back, is_own, clear};
 
+use crate::RECORD_SIZE;
 use field::{limits, text};
 use message::width::Width;
 use message::{Side, codes, entry, numbers};
@@ -16,8 +17,8 @@ use message::{Side, codes, entry, numbers};
 // They are the moves of `wire` the other way. One function of both would be handed each move's two places and its width, which is all that these say.
 
 // The letter and the stamp.
-fn stamp(kept: &[u8], out: &mut [u8])
-    requires { (length kept.now ≡ record_size) × (11 ≤ length out.old) }
+fn stamp(kept: &[u8; RECORD_SIZE], out: &mut [u8])
+    requires { 11 ≤ length out.old }
     ensures { out.new ≡ laid (letter_place ∷ stamp_rows) (values (letter_place ∷ stamp_places) kept.now) out.old }
 {
     field::carry::<1>(kept, 0, out, 0);
@@ -26,8 +27,8 @@ fn stamp(kept: &[u8], out: &mut [u8])
 }
 
 // H, and a quote before its sides.
-fn head(kept: &[u8], out: &mut [u8])
-    requires { (length kept.now ≡ record_size) × (16 ≤ length out.old) }
+fn head(kept: &[u8; RECORD_SIZE], out: &mut [u8])
+    requires { 16 ≤ length out.old }
     ensures { out.new ≡ laid (letter_place ∷ quote_rows) (values (letter_place ∷ head_places) kept.now) out.old }
 {
     stamp(kept, out);
@@ -53,16 +54,16 @@ fn numbers<T: Width>(kept: &[u8], at: usize, out: &mut [u8], to: usize)
     field::write::<T>(out, to + 4 * size, field::read::<T>(kept, low + 16));
 }
 
-fn system_event(kept: &[u8], out: &mut [u8])
-    requires { (length kept.now ≡ record_size) × (12 ≤ length out.old) }
+fn system_event(kept: &[u8; RECORD_SIZE], out: &mut [u8])
+    requires { 12 ≤ length out.old }
     ensures { out.new ≡ laid (letter_place ∷ system_event_rows) (values (letter_place ∷ system_event_places) kept.now) out.old }
 {
     stamp(kept, out);
     field::carry::<1>(kept, 1, out, 11);
 }
 
-fn side<T: Width>(kept: &[u8], side: Side, out: &mut [u8])
-    requires { (length kept.now ≡ record_size) × (16 + 5 * T.width ≤ length out.old) }
+fn side<T: Width>(kept: &[u8; RECORD_SIZE], side: Side, out: &mut [u8])
+    requires { 16 + 5 * T.width ≤ length out.old }
     ensures { out.new ≡ laid (letter_place ∷ one_side_rows T.width T.form.keeps) (values (letter_place ∷ one_side_places T.width side) kept.now) out.old }
 {
     let at = crate::side_at(side);
@@ -70,8 +71,8 @@ fn side<T: Width>(kept: &[u8], side: Side, out: &mut [u8])
     numbers::<T>(kept, at, out, 16);
 }
 
-fn quote<T: Width>(kept: &[u8], out: &mut [u8])
-    requires { (length kept.now ≡ record_size) × (16 + 10 * T.width ≤ length out.old) }
+fn quote<T: Width>(kept: &[u8; RECORD_SIZE], out: &mut [u8])
+    requires { 16 + 10 * T.width ≤ length out.old }
     ensures { out.new ≡ laid (letter_place ∷ whole_quote_rows T.width T.form.keeps) (values (letter_place ∷ whole_quote_places T.width) kept.now) out.old }
 {
     head(kept, out);
@@ -80,8 +81,8 @@ fn quote<T: Width>(kept: &[u8], out: &mut [u8])
 }
 
 // Id, symbol and date of an instrument.
-fn terms(kept: &[u8], out: &mut [u8])
-    requires { (length kept.now ≡ record_size) × (63 ≤ length out.old) }
+fn terms(kept: &[u8; RECORD_SIZE], out: &mut [u8])
+    requires { 63 ≤ length out.old }
     ensures { out.new ≡ laid (take 5 instrument_rows) (values (take 5 instrument_places) kept.now) out.old }
 {
     field::carry::<4>(kept, 4, out, 11);
@@ -92,8 +93,8 @@ fn terms(kept: &[u8], out: &mut [u8])
 }
 
 // Strike, option type and underlying.
-fn middle(kept: &[u8], out: &mut [u8])
-    requires { (length kept.now ≡ record_size) × (63 ≤ length out.old) }
+fn middle(kept: &[u8; RECORD_SIZE], out: &mut [u8])
+    requires { 63 ≤ length out.old }
     ensures { out.new ≡ laid (take 3 (drop 5 instrument_rows)) (values (take 3 (drop 5 instrument_places)) kept.now) out.old }
 {
     field::carry::<4>(kept, 64, out, 26);
@@ -102,8 +103,8 @@ fn middle(kept: &[u8], out: &mut [u8])
 }
 
 // Closing type, tradable, variation and reserved.
-fn marks(kept: &[u8], out: &mut [u8])
-    requires { (length kept.now ≡ record_size) × (63 ≤ length out.old) }
+fn marks(kept: &[u8; RECORD_SIZE], out: &mut [u8])
+    requires { 63 ≤ length out.old }
     ensures { out.new ≡ laid (drop 8 instrument_rows) (values (drop 8 instrument_places) kept.now) out.old }
 {
     field::carry::<1>(kept, 72, out, 44);
@@ -112,8 +113,8 @@ fn marks(kept: &[u8], out: &mut [u8])
     field::carry::<16>(kept, 96, out, 47);
 }
 
-fn directory(kept: &[u8], out: &mut [u8])
-    requires { (length kept.now ≡ record_size) × (63 ≤ length out.old) }
+fn directory(kept: &[u8; RECORD_SIZE], out: &mut [u8])
+    requires { 63 ≤ length out.old }
     ensures { out.new ≡ laid (letter_place ∷ directory_rows) (values (letter_place ∷ directory_places) kept.now) out.old }
 {
     stamp(kept, out);
@@ -122,8 +123,8 @@ fn directory(kept: &[u8], out: &mut [u8])
     marks(kept, out);
 }
 
-fn end_of_replay(kept: &[u8], out: &mut [u8])
-    requires { (length kept.now ≡ record_size) × (21 ≤ length out.old) }
+fn end_of_replay(kept: &[u8; RECORD_SIZE], out: &mut [u8])
+    requires { 21 ≤ length out.old }
     ensures { out.new ≡ laid (letter_place ∷ end_of_replay_rows) (values (letter_place ∷ end_of_replay_places) kept.now) out.old }
 {
     field::carry::<1>(kept, 0, out, 0);
@@ -131,8 +132,8 @@ fn end_of_replay(kept: &[u8], out: &mut [u8])
 }
 
 // The fields of any letter, to a message's length.
-pub fn lay(letter: u8, kept: &[u8], out: &mut [u8])
-    requires { ((letter_in letters letter).size ≡ 0 → ⊥) × (length kept.now ≡ record_size) × ((letter_in letters letter).size ≤ length out.old) }
+pub fn lay(letter: u8, kept: &[u8; RECORD_SIZE], out: &mut [u8])
+    requires { ((letter_in letters letter).size ≡ 0 → ⊥) × ((letter_in letters letter).size ≤ length out.old) }
     ensures { out.new ≡ laid_back letter kept.now out.old }
 {
     match letter {
@@ -169,8 +170,8 @@ fn is_low(kept: &[u8], at: usize) -> bool
 }
 
 // Is every place 0 that is no field's?
-pub fn is_own(letter: u8, kept: &[u8]) -> bool
-    requires { ((letter_in letters letter).size ≡ 0 → ⊥) × (length kept.now ≡ record_size) }
+pub fn is_own(letter: u8, kept: &[u8; RECORD_SIZE]) -> bool
+    requires { (letter_in letters letter).size ≡ 0 → ⊥ }
     ensures { result ≡ is_own letter kept.now }
 {
     match letter {
@@ -188,16 +189,15 @@ pub fn is_own(letter: u8, kept: &[u8]) -> bool
 }
 
 // The rules of a quote before its sides.
-fn head_keeps(kept: &[u8]) -> bool
-    requires { length kept.now ≡ record_size }
+fn head_keeps(kept: &[u8; RECORD_SIZE]) -> bool
     ensures { result ≡ time_in_range (be (part kept.now 8 8)) && listed conditions (be (part kept.now 1 1)) }
 {
     limits::time_keeps(kept, 8) & codes::is_condition(field::read::<u8>(kept, 1))
 }
 
 // Do the fields keep the rules of their letter?
-pub fn keep(letter: u8, kept: &[u8]) -> bool
-    requires { ((letter_in letters letter).size ≡ 0 → ⊥) × (length kept.now ≡ record_size) }
+pub fn keep(letter: u8, kept: &[u8; RECORD_SIZE]) -> bool
+    requires { (letter_in letters letter).size ≡ 0 → ⊥ }
     ensures { result ≡ keeps_all (letter_in letters letter).rows (values (letter_in record_letters letter).rows kept.now) }
 {
     match letter {

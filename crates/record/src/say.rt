@@ -5,15 +5,14 @@ ghost use Rattle.message.specs.Letters.{letter_in, no_texts, stamp_of, numbers_o
 ghost use Rattle.record.specs.Places.{record_size, stamp_places, side_places, system_event_places, instrument_places, directory_places, head_places, whole_quote_places, one_side_places, end_of_replay_places, record_letter, record_letters};
 ghost use Rattle.record.specs.Record.{held, said_by};
 
-use crate::Held;
+use crate::{Held, RECORD_SIZE};
 use message::width::Width;
 use message::{
     Directory, EndOfReplay, Instrument, Message, OneSide, Quote, Side, SideNumbers, Stamp,
     SystemEvent, Texts, TradingAction, prices,
 };
 
-fn stamp(bytes: &[u8]) -> Stamp
-    requires { record_size ≤ length bytes.now }
+fn stamp(bytes: &[u8; RECORD_SIZE]) -> Stamp
     ensures { result ≡ stamp_of (values stamp_places bytes.now) }
 {
     Stamp {
@@ -47,8 +46,7 @@ fn bare(m: Message) -> Held
     }
 }
 
-fn system_event(bytes: &[u8]) -> Held
-    requires { record_size ≤ length bytes.now }
+fn system_event(bytes: &[u8; RECORD_SIZE]) -> Held
     ensures { result ≡ said_by (record_letter system_event_letter system_event_places) bytes.now }
 {
     bare(Message::SystemEvent(SystemEvent {
@@ -57,8 +55,7 @@ fn system_event(bytes: &[u8]) -> Held
     }))
 }
 
-fn instrument(bytes: &[u8]) -> Instrument
-    requires { record_size ≤ length bytes.now }
+fn instrument(bytes: &[u8; RECORD_SIZE]) -> Instrument
     ensures { result ≡ instrument_of (values instrument_places bytes.now) }
 {
     Instrument {
@@ -74,25 +71,17 @@ fn instrument(bytes: &[u8]) -> Instrument
     }
 }
 
-fn texts(bytes: &[u8]) -> Texts
-    requires { record_size ≤ length bytes.now }
+fn texts(bytes: &[u8; RECORD_SIZE]) -> Texts
     ensures { result ≡ texts_of (values instrument_places bytes.now) }
 {
-    let mut symbol = [0; 8];
-    field::copy(bytes, 75, 8, &mut symbol, 0);
-    let mut underlying = [0; 13];
-    field::copy(bytes, 83, 13, &mut underlying, 0);
-    let mut reserved = [0; 16];
-    field::copy(bytes, 96, 16, &mut reserved, 0);
     Texts {
-        symbol,
-        underlying,
-        reserved,
+        symbol: field::bytes::<8>(bytes, 75),
+        underlying: field::bytes::<13>(bytes, 83),
+        reserved: field::bytes::<16>(bytes, 96),
     }
 }
 
-fn directory(bytes: &[u8]) -> Held
-    requires { record_size ≤ length bytes.now }
+fn directory(bytes: &[u8; RECORD_SIZE]) -> Held
     ensures { result ≡ said_by (record_letter directory_letter directory_places) bytes.now }
 {
     Held {
@@ -104,8 +93,7 @@ fn directory(bytes: &[u8]) -> Held
     }
 }
 
-fn trading_action(bytes: &[u8]) -> Held
-    requires { record_size ≤ length bytes.now }
+fn trading_action(bytes: &[u8; RECORD_SIZE]) -> Held
     ensures { result ≡ said_by (record_letter trading_action_letter head_places) bytes.now }
 {
     bare(Message::TradingAction(TradingAction {
@@ -115,8 +103,7 @@ fn trading_action(bytes: &[u8]) -> Held
     }))
 }
 
-fn quote<T: Width>(bytes: &[u8]) -> Held
-    requires { record_size ≤ length bytes.now }
+fn quote<T: Width>(bytes: &[u8; RECORD_SIZE]) -> Held
     ensures { result ≡ said_by (record_letter (quote_letter T.width T.form) (whole_quote_places T.width)) bytes.now }
 {
     bare(T::quote(Quote {
@@ -128,8 +115,7 @@ fn quote<T: Width>(bytes: &[u8]) -> Held
     }))
 }
 
-fn side<T: Width>(bytes: &[u8], side: Side) -> Held
-    requires { record_size ≤ length bytes.now }
+fn side<T: Width>(bytes: &[u8; RECORD_SIZE], side: Side) -> Held
     ensures { result ≡ said_by (record_letter (side_letter T.width T.form side) (one_side_places T.width side)) bytes.now }
 {
     bare(T::side(OneSide {
@@ -141,8 +127,7 @@ fn side<T: Width>(bytes: &[u8], side: Side) -> Held
     }))
 }
 
-fn end_of_replay(bytes: &[u8]) -> Held
-    requires { record_size ≤ length bytes.now }
+fn end_of_replay(bytes: &[u8; RECORD_SIZE]) -> Held
     ensures { result ≡ said_by (record_letter end_of_replay_letter end_of_replay_places) bytes.now }
 {
     bare(Message::EndOfReplay(EndOfReplay {
@@ -150,8 +135,7 @@ fn end_of_replay(bytes: &[u8]) -> Held
     }))
 }
 
-pub fn message(letter: u8, bytes: &[u8]) -> Held
-    requires { record_size ≤ length bytes.now }
+pub fn message(letter: u8, bytes: &[u8; RECORD_SIZE]) -> Held
     ensures { result ≡ said_by (letter_in record_letters letter) bytes.now }
 {
     match letter {
