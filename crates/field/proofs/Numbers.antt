@@ -255,6 +255,11 @@ lent-bytes s k i = let g = k i in omega arith
 pub rewrites : (n : ℕ) (s : List ℕ) (from : ℕ) → Bytes s → from + n ≤ length s → bytes_be n (be (part s from n)) ≡ part s from n
 rewrites n s from b h = rw (part_length s from n h) at (digits_value 256 (lit< tt) (part s from n) (part_bytes s from n b))
 
+-- read in one place and written in another
+pub carried : (n : ℕ) (xs : List ℕ) (at : ℕ) (s : List ℕ) (from : ℕ) {v : ℕ} {ys : List ℕ} → Lent s → from + n ≤ length s → v ≡ be (part s from n)
+    → ys ≡ overlay xs at (bytes_be n v) → ys ≡ overlay xs at (part s from n)
+carried n xs at s from k h e w = w ∙ ap (λ (u : ℕ). overlay xs at (bytes_be n u)) e ∙ ap (overlay xs at) (rewrites n s from (lent-bytes s k) h)
+
 -- ---- a time by its halves
 
 module _ (s : List ℕ) (at : ℕ) {high : ℕ} (k : Lent s) (h : at + 8 ≤ length s) (e : high ≡ be (part s at 4)) where

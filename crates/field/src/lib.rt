@@ -167,8 +167,8 @@ pub fn copy(src: &[u8], from: usize, n: usize, dst: &mut [u8], at: usize)
     requires { (from + n ≤ length src.now) × (at + n ≤ length dst.old) }
     ensures { dst.new ≡ overlay dst.old at (part src.now from n) }
 {
-    for k in 0..n {
-        dst[at + k] = src[from + k];
+    for copied in 0..n {
+        dst[at + copied] = src[from + copied];
     }
 }
 
@@ -177,8 +177,8 @@ pub fn fill(dst: &mut [u8], at: usize, n: usize, byte: u8)
     requires { at + n ≤ length dst.old }
     ensures { dst.new ≡ overlay dst.old at (replicate n byte) }
 {
-    for k in 0..n {
-        dst[at + k] = byte;
+    for filled in 0..n {
+        dst[at + filled] = byte;
     }
 }
 

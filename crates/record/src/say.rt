@@ -1,18 +1,20 @@
-// What the fields of a record's bytes say, by their letter: one reader for each kind.
+// What the fields of a record's bytes say, by their letter: one reader for each kind. `message` asks for a record's bytes at least: an array of them
+// would ask for no more.
 ghost use Rattle.std.specs.Prelude.{◌≡◌, ◌+◌, ◌≤◌, length};
 ghost use Rattle.message.specs.Layout.{values};
 ghost use Rattle.message.specs.Letters.{letter_in, no_texts, stamp_of, numbers_of, map_numbers, instrument_of, texts_of, system_event_letter, directory_letter, trading_action_letter, quote_letter, side_letter, end_of_replay_letter};
 ghost use Rattle.record.specs.Places.{record_size, stamp_places, side_places, system_event_places, instrument_places, directory_places, head_places, whole_quote_places, one_side_places, end_of_replay_places, record_letter, record_letters};
 ghost use Rattle.record.specs.Record.{held, said_by};
 
-use crate::{Held, RECORD_SIZE};
+use crate::Held;
 use message::width::Width;
 use message::{
     Directory, EndOfReplay, Instrument, Message, OneSide, Quote, Side, SideNumbers, Stamp,
     SystemEvent, Texts, TradingAction, prices,
 };
 
-fn stamp(bytes: &[u8; RECORD_SIZE]) -> Stamp
+fn stamp(bytes: &[u8]) -> Stamp
+    requires { record_size ≤ length bytes.now }
     ensures { result ≡ stamp_of (values stamp_places bytes.now) }
 {
     Stamp {
@@ -46,7 +48,8 @@ fn bare(m: Message) -> Held
     }
 }
 
-fn system_event(bytes: &[u8; RECORD_SIZE]) -> Held
+fn system_event(bytes: &[u8]) -> Held
+    requires { record_size ≤ length bytes.now }
     ensures { result ≡ said_by (record_letter system_event_letter system_event_places) bytes.now }
 {
     bare(Message::SystemEvent(SystemEvent {
@@ -55,7 +58,8 @@ fn system_event(bytes: &[u8; RECORD_SIZE]) -> Held
     }))
 }
 
-fn instrument(bytes: &[u8; RECORD_SIZE]) -> Instrument
+fn instrument(bytes: &[u8]) -> Instrument
+    requires { record_size ≤ length bytes.now }
     ensures { result ≡ instrument_of (values instrument_places bytes.now) }
 {
     Instrument {
@@ -71,7 +75,8 @@ fn instrument(bytes: &[u8; RECORD_SIZE]) -> Instrument
     }
 }
 
-fn texts(bytes: &[u8; RECORD_SIZE]) -> Texts
+fn texts(bytes: &[u8]) -> Texts
+    requires { record_size ≤ length bytes.now }
     ensures { result ≡ texts_of (values instrument_places bytes.now) }
 {
     Texts {
@@ -81,7 +86,8 @@ fn texts(bytes: &[u8; RECORD_SIZE]) -> Texts
     }
 }
 
-fn directory(bytes: &[u8; RECORD_SIZE]) -> Held
+fn directory(bytes: &[u8]) -> Held
+    requires { record_size ≤ length bytes.now }
     ensures { result ≡ said_by (record_letter directory_letter directory_places) bytes.now }
 {
     Held {
@@ -93,7 +99,8 @@ fn directory(bytes: &[u8; RECORD_SIZE]) -> Held
     }
 }
 
-fn trading_action(bytes: &[u8; RECORD_SIZE]) -> Held
+fn trading_action(bytes: &[u8]) -> Held
+    requires { record_size ≤ length bytes.now }
     ensures { result ≡ said_by (record_letter trading_action_letter head_places) bytes.now }
 {
     bare(Message::TradingAction(TradingAction {
@@ -103,7 +110,8 @@ fn trading_action(bytes: &[u8; RECORD_SIZE]) -> Held
     }))
 }
 
-fn quote<T: Width>(bytes: &[u8; RECORD_SIZE]) -> Held
+fn quote<T: Width>(bytes: &[u8]) -> Held
+    requires { record_size ≤ length bytes.now }
     ensures { result ≡ said_by (record_letter (quote_letter T.width T.form) (whole_quote_places T.width)) bytes.now }
 {
     bare(T::quote(Quote {
@@ -115,7 +123,8 @@ fn quote<T: Width>(bytes: &[u8; RECORD_SIZE]) -> Held
     }))
 }
 
-fn side<T: Width>(bytes: &[u8; RECORD_SIZE], side: Side) -> Held
+fn side<T: Width>(bytes: &[u8], side: Side) -> Held
+    requires { record_size ≤ length bytes.now }
     ensures { result ≡ said_by (record_letter (side_letter T.width T.form side) (one_side_places T.width side)) bytes.now }
 {
     bare(T::side(OneSide {
@@ -127,7 +136,8 @@ fn side<T: Width>(bytes: &[u8; RECORD_SIZE], side: Side) -> Held
     }))
 }
 
-fn end_of_replay(bytes: &[u8; RECORD_SIZE]) -> Held
+fn end_of_replay(bytes: &[u8]) -> Held
+    requires { record_size ≤ length bytes.now }
     ensures { result ≡ said_by (record_letter end_of_replay_letter end_of_replay_places) bytes.now }
 {
     bare(Message::EndOfReplay(EndOfReplay {
@@ -135,7 +145,8 @@ fn end_of_replay(bytes: &[u8; RECORD_SIZE]) -> Held
     }))
 }
 
-pub fn message(letter: u8, bytes: &[u8; RECORD_SIZE]) -> Held
+pub fn message(letter: u8, bytes: &[u8]) -> Held
+    requires { record_size ≤ length bytes.now }
     ensures { result ≡ said_by (letter_in record_letters letter) bytes.now }
 {
     match letter {
