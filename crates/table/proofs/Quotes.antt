@@ -15,7 +15,7 @@ use Rattle.message.specs.Letters.{listed, anything, conditions, long_price}
 use Rattle.message.specs.Message.{keeps, Typed}
 use Rattle.message.specs.declared.Message.{Message}
 use Rattle.message.specs.declared.Message.TheVariants as message
-use Rattle.std.specs.Prelude.{Option}
+use Rattle.std.specs.Prelude.{Option, Ok}
 use Rattle.std.specs.declared.option.Option.TheVariants as short
 use Rattle.message.specs.declared.LongNumbers.{LongNumbers}
 use Rattle.message.specs.declared.ShortQuote.{ShortQuote}
@@ -45,7 +45,6 @@ use Rattle.table.proofs.Search.{Has}
 use Rattle.table.proofs.IndexPlaces.{here-has}
 use Rattle.table.proofs.Rows.{row-length, row-own}
 use Rattle.table.proofs.Exactly.{none, by-outcome}
-use Rattle.std.specs.Prelude.{Ok}
 
 -- ---- a quote that keeps its field rules
 
