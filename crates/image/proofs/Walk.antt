@@ -3,12 +3,12 @@
 use mathlib.Core.Path.{◌≡◌, refl, sym, ap, subst, ◌∙◌}
 use mathlib.Core.Bool.{Bool, true, false, ◌&&◌, not, and-false}
 use mathlib.Core.List.{List}
-use Prim.Native.Nat.{ℕ, zero, suc, ◌+◌, ◌-◌, ◌<◌}
+use Prim.Native.Nat.{ℕ, zero, suc, ◌+◌, ◌-◌, ◌≤◌, ◌<◌}
 use native.Mathlib.Nat.{not-suc-le-zero}
 use native.Mathlib.Decide.{ℕ_discrete}
 use native.Mathlib.Omega.{arith}
 use lib.Dec.{eqb}
-use lib.ListN.{take, drop}
+use lib.ListN.{length, take, drop}
 use borrow.Author.Tests.{eq-eqb, ne_eqb}
 use Rattle.field.specs.Bytes.{part, be}
 use Rattle.message.proofs.Layouts.{never}
@@ -21,7 +21,8 @@ use Rattle.table.proofs.Rows.{lacks-same}
 use Rattle.image.specs.Shape.{pages_for, pages, PagesIn, place_of, all_below}
 use Rattle.image.specs.Ids.{good_row, own_id, Rising, Among, With, Entered}
 use Rattle.image.proofs.Below.{was-no, was-yes, below-turn, below-stop, below_all}
-use Rattle.image.proofs.Laid.{row-page, place-row, place-id}
+use Rattle.image.specs.declared.rows.Pages.{Pages}
+use Rattle.image.proofs.Laid.{row_fits, row-page, place-row, place-id}
 
 -- ---- the rules look at the rows alone
 
@@ -145,6 +146,10 @@ module _ (v : ℕ) (mem : List ℕ) (rows : ℕ) {r : Bool} (er : r ≡ all_belo
 pub lent : (s : List ℕ) (at : ℕ) → take (at + row_size - at) (drop at s) ≡ part s at row_size
 unfolding part
 lent s at = let e : at + row_size - at ≡ row_size = omega arith in rw e
+
+-- a row in pages lies within the bytes
+pub row-room : (p : Pages) (k : ℕ) → k < p.rows → place_of p.base p.stride k + row_size ≤ length p.bytes.now
+row-room p k h = row_fits p.bytes.now p.base p.stride p.rows k p.inside h
 
 module _ (s : List ℕ) (base stride rows k at : ℕ) (f : PagesIn s base stride (pages_for rows)) (h : k < rows) (ea : at ≡ place_of base stride k) where
   pub id-there : {id : ℕ} → id ≡ be (part s at 4) → id ≡ id_of (row k (pages s base stride (pages_for rows)))

@@ -25,8 +25,7 @@ use Rattle.image.specs.Restore.{count_of, version_of, verdict_in, verdict_of, ro
 use Rattle.image.specs.declared.Header.{Header}
 use Rattle.image.specs.declared.Refusal.{Refusal}
 use Rattle.image.specs.declared.Refusal.TheVariants.{Unfit, BadLength, BadContents, ShortOutput}
-use Rattle.std.specs.Prelude.{Result}
-use Rattle.std.specs.Prelude.{Ok, Err}
+use Rattle.std.specs.Prelude.{Result, Ok, Err}
 use Rattle.image.specs.declared.Restored.{Restored}
 use Rattle.image.specs.declared.Wanted.{Wanted}
 use Rattle.image.proofs.Below.{was-no, was-yes}

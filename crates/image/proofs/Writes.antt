@@ -27,11 +27,11 @@ use Rattle.image.specs.Moves.{used_in, wanted_by, version_after, along, moved_of
 use Rattle.image.specs.declared.Header.{Header}
 use Rattle.image.specs.declared.Refusal.{Refusal}
 use Rattle.image.specs.declared.Refusal.TheVariants.{ShortOutput}
-use Rattle.std.specs.Prelude.{Result}
-use Rattle.std.specs.Prelude.{Ok, Err}
+use Rattle.std.specs.Prelude.{Result, Ok, Err}
 use Rattle.image.specs.declared.Wanted.{Wanted}
 use Rattle.image.specs.declared.Wanted.TheVariants.{Any, Newest}
 use Rattle.image.specs.declared.Way.{Way}
+use Rattle.image.specs.declared.moves.Moving.{Moving}
 use Rattle.image.proofs.Laid.{pages-part, row_fits}
 use Rattle.image.proofs.Walk.{lent}
 use Rattle.image.proofs.Zeros.{cleared-own}
@@ -171,6 +171,18 @@ module _ (image : List ℕ) (a : verdict_of image ≡ Ok (tt {0})) (way : Way) (
       let pm : page_of rows (each_row (along way) rows (rows_of image)) i ≡ r = m1 ∙ sym m2 in
       ap (λ (x : ℕ). put_mid at x us r) em ∙ part-back at (at + body_size) us r (omega arith) (omega arith) (l ∙ em)
       ∙ ap (λ (x : List ℕ). overlay x at r) eu ∙ overlay-again xs at p r (lp ∙ sym (l ∙ d)) (omega arith) ∙ ap (overlay xs at) (sym pm)
+
+-- of an image on its way
+module _ (m : Moving) where
+  pub rows-are : m.header.board.rows ≡ (header_of m.image.now).board.rows
+  rows-are = ap (λ (h : Header). h.board.rows) m.header_is
+
+  module _ (k : ℕ) (h : k < pages_for m.header.board.rows) where
+    pub page-room : (first_page + k * block_size + body_size ≤ length m.image.now) × (k < most_blocks)
+    page-room = image-long m.image.now m.judged m.way m.header.board.rows k rows-are h
+
+    pub page-used : used_in m.header.board.rows k ≤ page_rows
+    page-used = used-small m.image.now m.judged m.way m.header.board.rows k rows-are h
 
 record Sizes (h : Header) (mem : List ℕ) : Type 0 where
   session : length h.session ≡ 10

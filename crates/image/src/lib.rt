@@ -7,6 +7,8 @@ ghost use Rattle.image.specs.Save.{refusal_number, saving, save_of};
 ghost use Rattle.std.specs.Prelude.{Err};
 ghost use Rattle.image.specs.Restore.{restoring, restored, restore_of};
 
+use crate::pages::Source;
+use crate::rows::Pages;
 use table::Board;
 
 mod each_row;
@@ -69,16 +71,18 @@ pub struct Restored {
     pub header: Header,
 }
 
-pub fn refusal_number(r: Refusal) -> u8
-    ensures { result ≡ refusal_number r }
-{
-    match r {
-        Refusal::Unfit => 20,
-        Refusal::BadLength => 21,
-        Refusal::BadCheck => 22,
-        Refusal::BadHead => 23,
-        Refusal::BadContents => 24,
-        Refusal::ShortOutput => 25,
+impl From<Refusal> for u8 {
+    ghost from_gives = { λ r n. n ≡ refusal_number r };
+
+    fn from(r: Refusal) -> u8 {
+        match r {
+            Refusal::Unfit => 20,
+            Refusal::BadLength => 21,
+            Refusal::BadCheck => 22,
+            Refusal::BadHead => 23,
+            Refusal::BadContents => 24,
+            Refusal::ShortOutput => 25,
+        }
     }
 }
 
@@ -108,7 +112,13 @@ pub fn save(h: Header, table: &[u8], out: &mut [u8]) -> Result<usize, Refusal>
         return Err(Refusal::Unfit);
     }
     let rows = h.board.rows;
-    let kept = facts::keep(h) & rows::keep(table, 0, block::BODY_SIZE, row::rules::NEWEST, rows);
+    let slots = Pages {
+        bytes: table,
+        base: 0,
+        stride: block::BODY_SIZE,
+        rows,
+    };
+    let kept = facts::keep(h) & slots.keep(row::rules::NEWEST);
     if !kept {
         return Err(Refusal::BadContents);
     }
@@ -117,7 +127,12 @@ pub fn save(h: Header, table: &[u8], out: &mut [u8]) -> Result<usize, Refusal>
     if out.len() < size {
         return Err(Refusal::ShortOutput);
     }
-    pages::put_blocks(out, h, table, count);
+    let source = Source {
+        table,
+        header: h,
+        count,
+    };
+    source.put_blocks(out);
     Ok(size)
 }
 

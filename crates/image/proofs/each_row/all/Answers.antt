@@ -8,9 +8,6 @@ use Rattle.image.proofs.each_row.all.Goals as goal
 pub loop-k-init : goal.loop-k-init
 loop-k-init c = each_none _ _
 
-pub go_at-requires : goal.go_at-requires
-go_at-requires c = omega arith
-
 pub loop-k-preserved : goal.loop-k-preserved
 loop-k-preserved c = search (each_turn, rules)
 

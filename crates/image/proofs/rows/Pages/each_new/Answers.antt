@@ -1,0 +1,30 @@
+-- `image::rows::Pages::each_new` meets its contract.
+use mathlib.Core.Path.{refl}
+use native.Mathlib.Omega.{arith}
+use Rattle.image.proofs.Below.{below_none, below_end}
+use Rattle.image.proofs.Walk.{row-room, gathered_none, id-there, id-twice, id-gathered, id-once}
+use borrow.Author.Rules.{rules}
+use Rattle.image.proofs.rows.Pages.each_new.Goals as goal
+
+-- the ids of the first k rows are gathered, and none of them is there twice
+
+pub loop-k-init : goal.loop-k-init
+loop-k-init c = (gathered_none _ _, below_none _)
+
+pub place-at-requires : goal.place-at-requires
+place-at-requires c = let p = row-room c.args.self.now c.loop-k.k (omega arith) in omega arith
+
+pub read-requires : goal.read-requires
+read-requires c = let p = row-room c.args.self.now c.loop-k.k (omega arith) in omega arith
+
+pub enter-requires : goal.enter-requires
+enter-requires c = (c.loop-k.invariant.0.rising, search rules)
+
+pub returns-then-not-enter : goal.returns-then-not-enter
+returns-then-not-enter c = search (id-twice, id-there)
+
+pub loop-k-preserved : goal.loop-k-preserved
+loop-k-preserved c = (search (id-gathered, id-there), search (id-once, id-there))
+
+pub returns : goal.returns
+returns c = search below_end
