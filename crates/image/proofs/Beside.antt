@@ -11,11 +11,11 @@ use lib.ListN.{length, length-append, replicate}
 use Rattle.field.specs.Bytes.{part, overlay, digits, be, bytes_be}
 use Rattle.field.specs.Limits.{number_in_range}
 use Rattle.field.specs.Text.{every, is_space, is_zero}
-use Rattle.field.proofs.Parts.{part_length, part-whole, overlay-whole, overlay-next}
+use Rattle.field.proofs.Parts.{part-whole, overlay-next}
 use Rattle.field.proofs.Numbers.{digits-length}
 use Rattle.field.proofs.Writes.{piece, run-joined}
 use Rattle.message.specs.Letters.{listed, event_codes}
-use Rattle.block.specs.Block.{block_size, head_size, body_size, head_at}
+use Rattle.block.specs.Block.{head_size, body_size, head_at}
 use Rattle.block.specs.declared.Head.{Head}
 use Rattle.table.specs.Memory.{rows_fit}
 use Rattle.table.specs.Board.{fresh_board, fits}

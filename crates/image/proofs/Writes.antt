@@ -1,6 +1,6 @@
 -- The blocks of a moved image, made by writes one after the other.
 -- Assumes nothing.
-use mathlib.Core.Path.{◌≡◌, refl, sym, ap, ◌∙◌}
+use mathlib.Core.Path.{◌≡◌, refl, sym, ap, subst, ◌∙◌}
 use mathlib.Core.Bool.{Bool, true, false, cond}
 use mathlib.Core.List.{List}
 use Prim.Native.Nat.{ℕ, ◌+◌, ◌-◌, ◌*◌, ◌≤◌, ◌<◌}
@@ -19,7 +19,7 @@ use Rattle.row.specs.Fields.{row_size}
 use Rattle.row.specs.Moves.{known_times}
 use Rattle.table.specs.Memory.{most_rows, table_size, row_at, row, each_row}
 use Rattle.table.proofs.Each.{rows_whole, each-length, each-past, each_row_lem}
-use Rattle.image.specs.Shape.{page_rows, pages_for, blocks_for, most_blocks, head_for, place_of, first_page}
+use Rattle.image.specs.Shape.{page_rows, pages_for, blocks_for, most_blocks, head_for, PagesIn, place_of, first_page}
 use Rattle.image.specs.Header.{header_of}
 use Rattle.image.specs.Save.{page_of, body_of, saved_block, blocks, image_in, saving, unsaved}
 use Rattle.image.specs.Restore.{count_of, verdict_in, verdict_of, rows_of}
@@ -32,8 +32,7 @@ use Rattle.image.specs.declared.Wanted.{Wanted}
 use Rattle.image.specs.declared.Wanted.TheVariants.{Any, Newest}
 use Rattle.image.specs.declared.Way.{Way}
 use Rattle.image.specs.declared.moves.Moving.{Moving}
-use Rattle.image.proofs.Laid.{pages-part, row_fits}
-use Rattle.image.proofs.Walk.{lent}
+use Rattle.image.proofs.Laid.{pages-part}
 use Rattle.image.proofs.Zeros.{cleared-own}
 use Rattle.image.proofs.Again.{Kept, kept, count-is, pages-are, within, memory_start, rows_few, rows-length}
 use Rattle.image.proofs.Renewed.{along-size, moved_row, moved_length, moved-blank}
@@ -258,18 +257,19 @@ module _ (way : Way) (image out : List ℕ) {w : Wanted} (ew : w ≡ wanted_by w
 
 -- ---- the times that are counted
 
-module _ (image : List ℕ) (e : verdict_of image ≡ Ok (tt {0})) (used : ℕ) (eu : used ≡ (header_of image).board.rows) (k at : ℕ) (h : k < used) (ea : at ≡ place_of first_page block_size k) where
+module _ (image : List ℕ) (e : verdict_of image ≡ Ok (tt {0})) (used : ℕ) (eu : used ≡ (header_of image).board.rows) where
   one : Kept image
   one = (kept Any image e).0
 
-  pub row_inside : place_of first_page block_size k + row_size ≤ length image
-  row_inside =
+  pub rows-inside : PagesIn image first_page block_size (pages_for used)
+  rows-inside =
       let n : count_of image - 1 ≡ pages_for (header_of image).board.rows = pages-are (header_of image).board.rows (count_of image) (count-is image one) in
-      row_fits image first_page block_size (header_of image).board.rows k (rw n at (within image one)) (rw eu at h)
+      subst (λ (u : ℕ). PagesIn image first_page block_size (pages_for u)) (sym eu) (rw n at (within image one))
 
-  pub known-turn : {total n : ℕ} → total ≡ known_in k (rows_of image) → n ≡ known_times (take (at + row_size - at) (drop at image)) → total + n ≡ known_in (k + 1) (rows_of image)
+  pub known-turn : (k : ℕ) → k < used → {total n : ℕ} {bytes : List ℕ} → total ≡ known_in k (rows_of image)
+      → bytes ≡ part image (place_of first_page block_size k) row_size → n ≡ known_times bytes → total + n ≡ known_in (k + 1) (rows_of image)
   unfolding known_in
-  known-turn t g = rw (add-one, t, g, lent image at, ea, rows_are image one k (rw eu at h))
+  known-turn k h t eb g = rw (add-one, t, g, eb, rows_are image one k (rw eu at h))
 
 pub few-used : (image : List ℕ) → verdict_of image ≡ Ok (tt {0}) → (used : ℕ) → used ≡ (header_of image).board.rows → used ≤ most_rows
 few-used image e used eu = rw eu (rows_few image (kept Any image e).0)

@@ -8,14 +8,16 @@ ghost use Rattle.image.specs.Moves.{along};
 use crate::Way;
 use row::rules;
 
-// One row.
-fn go(row: &mut [u8], way: Way)
-    requires { row_size ≤ length row.old }
-    ensures { row.new ≡ along way row.old }
-{
-    match way {
-        Way::Forward => row::moves::forward(row),
-        Way::Back => row::moves::back(row),
+impl Way {
+    // One row.
+    fn go(self, row: &mut [u8])
+        requires { row_size ≤ length row.old }
+        ensures { row.new ≡ along self row.old }
+    {
+        match self {
+            Way::Forward => row::moves::forward(row),
+            Way::Back => row::moves::back(row),
+        }
     }
 }
 
@@ -26,7 +28,7 @@ fn go_at(table: &mut [u8], way: Way, k: usize)
 {
     let from = k * row::ROW_SIZE;
     let to = from + row::ROW_SIZE;
-    go(&mut table[from..to], way);
+    way.go(&mut table[from..to]);
 }
 
 // Each of the first rows of table memory, or of a page.

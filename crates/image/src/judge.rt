@@ -27,13 +27,15 @@ fn checks_keep(image: &[u8], count: usize) -> bool
     true
 }
 
-fn welcomes(wanted: Wanted, version: u16) -> bool
-    ensures { result ≡ welcome wanted version }
-{
-    match wanted {
-        Wanted::Any => true,
-        Wanted::Older => version != row::rules::NEWEST,
-        Wanted::Newest => version == row::rules::NEWEST,
+impl Wanted {
+    fn welcomes(self, version: u16) -> bool
+        ensures { result ≡ welcome self version }
+    {
+        match self {
+            Wanted::Any => true,
+            Wanted::Older => version != row::rules::NEWEST,
+            Wanted::Newest => version == row::rules::NEWEST,
+        }
     }
 }
 
@@ -134,7 +136,7 @@ pub fn judge(image: &[u8], wanted: Wanted) -> Result<(), Refusal>
         header: facts::read(image),
         version: facts::version(image),
     };
-    let fit = blocks.heads_keep() & welcomes(wanted, blocks.version);
+    let fit = blocks.heads_keep() & wanted.welcomes(blocks.version);
     if !fit {
         return Err(Refusal::BadHead);
     }

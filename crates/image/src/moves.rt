@@ -11,7 +11,8 @@ ghost use Rattle.image.specs.Restore.{rows_of, verdict_of};
 ghost use Rattle.image.specs.Moves.{used_in, wanted_by, version_after, along, move_of, known_in, lost_of};
 ghost use Rattle.image.specs.declared.Way.TheVariants.{Forward, Back};
 
-use crate::{Header, Refusal, Wanted, Way, each_row, facts, judge, pages, rows};
+use crate::rows::Pages;
+use crate::{Header, Refusal, Wanted, Way, each_row, facts, judge, pages};
 use row::rules;
 
 // So many rows stand in page k.
@@ -40,10 +41,12 @@ struct Moving<'a> {
 }
 
 impl Moving<'_> {
+    ghost use Rattle.image.specs.Held.{moved_in};
+
     // Page k, moved.
     fn put_page(&self, out: &mut [u8], at: usize, k: usize)
         requires { (at + body_size ≤ length out.old) × (k < pages_for self.now.header.board.rows) }
-        ensures { out.new ≡ overlay out.old at (page_of self.now.header.board.rows (each_row (along self.now.way) self.now.header.board.rows (rows_of self.now.image.now)) k) }
+        ensures { out.new ≡ overlay out.old at (page_of self.now.header.board.rows (moved_in self.now) k) }
     {
         field::copy(
             self.image,
@@ -59,7 +62,7 @@ impl Moving<'_> {
 
     fn put_body(&self, out: &mut [u8], at: usize, k: usize)
         requires { (at + body_size ≤ length out.old) × (k < self.now.count) }
-        ensures { out.new ≡ overlay out.old at (body_of self.now.header (each_row (along self.now.way) self.now.header.board.rows (rows_of self.now.image.now)) k) }
+        ensures { out.new ≡ overlay out.old at (body_of self.now.header (moved_in self.now) k) }
     {
         if k == 0 {
             facts::put(out, at, self.header);
@@ -70,7 +73,7 @@ impl Moving<'_> {
 
     fn put_block(&self, out: &mut [u8], k: usize)
         requires { (k < self.now.count) × (k * block_size + block_size ≤ length out.old) }
-        ensures { out.new ≡ overlay out.old (k * block_size) (saved_block self.now.version self.now.header (each_row (along self.now.way) self.now.header.board.rows (rows_of self.now.image.now)) k) }
+        ensures { out.new ≡ overlay out.old (k * block_size) (saved_block self.now.version self.now.header (moved_in self.now) k) }
     {
         let at = k * block::BLOCK_SIZE;
         let head = pages::head_for(self.count, self.version, self.header.next, k);
@@ -81,7 +84,7 @@ impl Moving<'_> {
 
     fn put_blocks(&self, out: &mut [u8])
         requires { self.now.count * block_size ≤ length out.old }
-        ensures { out.new ≡ overlay out.old 0 (image_in self.now.version self.now.header (each_row (along self.now.way) self.now.header.board.rows (rows_of self.now.image.now))) }
+        ensures { out.new ≡ overlay out.old 0 (image_in self.now.version self.now.header (moved_in self.now)) }
     {
         for k in 0..self.count {
             self.put_block(out, k);
@@ -89,28 +92,30 @@ impl Moving<'_> {
     }
 }
 
-fn wanted_by(way: Way) -> Wanted
-    ensures { result ≡ wanted_by way }
-{
-    match way {
-        Way::Forward => Wanted::Older,
-        Way::Back => Wanted::Newest,
+impl Way {
+    fn wanted(self) -> Wanted
+        ensures { result ≡ wanted_by self }
+    {
+        match self {
+            Way::Forward => Wanted::Older,
+            Way::Back => Wanted::Newest,
+        }
     }
-}
 
-fn version_after(way: Way, rows: usize) -> u16
-    ensures { result ≡ version_after way rows }
-{
-    match way {
-        Way::Forward => rules::NEWEST,
-        Way::Back => pages::old_version(rows),
+    fn version_after(self, rows: usize) -> u16
+        ensures { result ≡ version_after self rows }
+    {
+        match self {
+            Way::Forward => rules::NEWEST,
+            Way::Back => pages::old_version(rows),
+        }
     }
 }
 
 fn move_image(image: &[u8], out: &mut [u8], way: Way) -> Result<usize, Refusal>
     ensures { saving result out.new ≡ move_of way image.now out.old }
 {
-    judge::judge(image, wanted_by(way))?;
+    judge::judge(image, way.wanted())?;
     let size = image.len();
     if out.len() < size {
         return Err(Refusal::ShortOutput);
@@ -121,7 +126,7 @@ fn move_image(image: &[u8], out: &mut [u8], way: Way) -> Result<usize, Refusal>
         header,
         count: size / block::BLOCK_SIZE,
         way,
-        version: version_after(way, header.board.rows),
+        version: way.version_after(header.board.rows),
     };
     moving.put_blocks(out);
     Ok(size)
@@ -146,11 +151,15 @@ fn known_in(image: &[u8], used: usize) -> usize
     requires { (verdict_of image.now ≡ Ok tt) × (used ≡ (header_of image.now).board.rows) }
     ensures { result ≡ known_in used (rows_of image.now) }
 {
+    let slots = Pages {
+        bytes: image,
+        base: pages::FIRST_PAGE,
+        stride: block::BLOCK_SIZE,
+        rows: used,
+    };
     let mut total = 0;
     for k in 0..used {
-        let at = rows::place(pages::FIRST_PAGE, block::BLOCK_SIZE, k);
-        let to = at + row::ROW_SIZE;
-        total += row::moves::known_times(&image[at..to]);
+        total += row::moves::known_times(slots.row(k));
     }
     total
 }

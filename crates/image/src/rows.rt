@@ -1,5 +1,6 @@
 // The rules of rows where they lie, four to a page: in table memory the pages touch, in an image each has its block.
 ghost use Rattle.std.specs.Prelude.{◌≡◌, ◌+◌, ◌≤◌, ◌<◌, ◌^◌, length};
+ghost use Rattle.row.specs.Fields.{row_size};
 ghost use Rattle.table.specs.Memory.{most_rows};
 ghost use Rattle.table.specs.Rules.{rows_keep};
 ghost use Rattle.image.specs.Shape.{pages_for, pages, PagesIn, place_of, all_below};
@@ -17,23 +18,28 @@ pub struct Pages<'a> {
     pub ghost inside: { PagesIn bytes.now base stride (pages_for rows) },
 }
 
-// Where row k stands.
-pub fn place(base: usize, stride: usize, k: usize) -> usize
-    requires { place_of base stride k < 2 ^ 64 }
-    ensures { result ≡ place_of base stride k }
-{
-    base + k / crate::PAGE_ROWS * stride + k % crate::PAGE_ROWS * row::ROW_SIZE
-}
+impl<'a> Pages<'a> {
+    ghost use Rattle.image.specs.Held.{rows_in, row_in};
 
-impl Pages<'_> {
+    // The bytes of row k.
+    pub fn row(&self, k: usize) -> &'a [u8]
+        requires { k < self.now.rows }
+        ensures bytes { result.now ≡ row_in self.now k }
+        ensures whole { length result.now ≡ row_size }
+    {
+        let at = self.base
+            + k / crate::PAGE_ROWS * self.stride
+            + k % crate::PAGE_ROWS * row::ROW_SIZE;
+        let to = at + row::ROW_SIZE;
+        &self.bytes[at..to]
+    }
+
     // Does each row keep its own rules?
     fn each_keeps(&self, version: u16) -> bool
-        ensures { result ≡ all_below (good_row version (pages self.now.bytes.now self.now.base self.now.stride (pages_for self.now.rows))) self.now.rows }
+        ensures { result ≡ all_below (good_row version (rows_in self.now)) self.now.rows }
     {
         for k in 0..self.rows {
-            let at = place(self.base, self.stride, k);
-            let to = at + row::ROW_SIZE;
-            if !row::rules::keep(version, &self.bytes[at..to]) {
+            if !row::rules::keep(version, self.row(k)) {
                 return false;
             }
         }
@@ -43,11 +49,10 @@ impl Pages<'_> {
     // Is no id there twice? The ids enter one by one among those before them.
     fn each_new(&self, rising: &mut [u32]) -> bool
         requires { self.now.rows ≤ length rising.old }
-        ensures { result ≡ all_below (own_id (pages self.now.bytes.now self.now.base self.now.stride (pages_for self.now.rows))) self.now.rows }
+        ensures { result ≡ all_below (own_id (rows_in self.now)) self.now.rows }
     {
         for k in 0..self.rows {
-            let at = place(self.base, self.stride, k);
-            if !ids::enter(rising, k, field::read::<u32>(self.bytes, at)) {
+            if !ids::enter(rising, k, field::read::<u32>(self.row(k), 0)) {
                 return false;
             }
         }
@@ -56,7 +61,7 @@ impl Pages<'_> {
 
     pub fn keep(&self, version: u16) -> bool
         requires { self.now.rows ≤ most_rows }
-        ensures { result ≡ rows_keep version self.now.rows (pages self.now.bytes.now self.now.base self.now.stride (pages_for self.now.rows)) }
+        ensures { result ≡ rows_keep version self.now.rows (rows_in self.now) }
     {
         if !self.each_keeps(version) {
             return false;

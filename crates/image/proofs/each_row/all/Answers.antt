@@ -1,6 +1,4 @@
 -- `image::each_row::all` meets its contract.
-use mathlib.Core.Path.{refl}
-use native.Mathlib.Omega.{arith}
 use borrow.Author.Rules.{rules}
 use Rattle.table.proofs.Each.{each_none, each_turn, each-end}
 use Rattle.image.proofs.each_row.all.Goals as goal

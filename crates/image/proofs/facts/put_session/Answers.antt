@@ -1,6 +1,5 @@
 -- `image::facts::put_session` meets its contract.
 use mathlib.Core.Path.{◌≡◌, ◌∙◌}
-use native.Mathlib.Omega.{arith}
 use lib.ListN.{length}
 use Rattle.image.proofs.Beside.{flag-byte, session-put}
 use borrow.Author.Rules.{rules}

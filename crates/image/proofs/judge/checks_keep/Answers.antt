@@ -1,6 +1,5 @@
 -- `image::judge::checks_keep` meets its contract.
 use Rattle.image.proofs.Judged.{checks-none, checks-stop, checks-on, checks-end}
-use borrow.Author.Rules.{rules}
 use Rattle.image.proofs.judge.checks_keep.Goals as goal
 
 pub loop-k-init : goal.loop-k-init

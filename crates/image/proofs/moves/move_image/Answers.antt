@@ -29,4 +29,4 @@ pub returns-in_err-judge : goal.returns-in_err-judge
 returns-in_err-judge c =
     let p = err_from_is_err_and c.from_residual.result c.from_residual.ensures.1 in
     let f : c.judge.result ≡ Err c.in_err-judge.field-0.0 = c.in_err-judge.was in
-    rw (p.1, p.2) (move-refused c.args.way c.args.image.now c.args.out.now c.wanted_by.ensures c.judge.ensures _ f)
+    rw (p.1, p.2) (move-refused c.args.way c.args.image.now c.args.out.now c.wanted.ensures c.judge.ensures _ f)

@@ -1,7 +1,6 @@
 -- `image::judge::Blocks::heads_keep` meets its contract.
 use Rattle.image.proofs.Below.{below_none}
 use Rattle.image.proofs.Judged.{head-fits, heads-range, heads-stop, heads-on, heads-end}
-use borrow.Author.Rules.{rules}
 use Rattle.image.proofs.judge.Blocks.heads_keep.Goals as goal
 
 pub returns-then-not-fit : goal.returns-then-not-fit

@@ -1,7 +1,6 @@
 -- `image::judge::Blocks::heads_keep` meets its contract.
 use mathlib.Core.Path.{◌≡◌}
 use mathlib.Core.Bool.{true}
-use Prim.Native.Nat.{◌≤◌, ◌-◌}
 use Rattle.image.specs.Shape.{all_below}
 use Rattle.image.specs.Restore.{head_keeps}
 use Rattle.image.proofs.judge.Blocks.heads_keep.Given as goal

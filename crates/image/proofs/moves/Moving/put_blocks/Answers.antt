@@ -1,6 +1,4 @@
 -- `image::moves::Moving::put_blocks` meets its contract.
-use mathlib.Core.Path.{refl}
-use borrow.Author.Rules.{rules}
 use Rattle.image.proofs.Puts.{blocks-none, blocks-all}
 use Rattle.image.proofs.Writes.{moved-turn}
 use Rattle.image.proofs.moves.Moving.put_blocks.Goals as goal

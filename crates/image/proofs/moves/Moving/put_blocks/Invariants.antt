@@ -1,7 +1,5 @@
 -- `image::moves::Moving::put_blocks` meets its contract.
 use mathlib.Core.Path.{◌≡◌}
-use Prim.Native.Nat.{◌≤◌, ◌-◌}
-use lib.ListN.{length}
 use Rattle.field.specs.Bytes.{overlay}
 use Rattle.table.specs.Memory.{each_row}
 use Rattle.image.specs.Save.{blocks}

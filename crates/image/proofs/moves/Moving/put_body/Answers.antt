@@ -1,6 +1,6 @@
 -- `image::moves::Moving::put_body` meets its contract.
 use Rattle.image.proofs.Puts.{page-there, body-first, body-later}
-use Rattle.image.proofs.Writes.{rows-here, body-rows}
+use Rattle.image.proofs.Writes.{rows-here}
 use borrow.Author.Rules.{rules}
 use Prim.Native.Nat.{◌<◌}
 use Rattle.image.specs.Shape.{blocks_for}

@@ -1,5 +1,5 @@
 -- `image::pages::Source::put_blocks` meets its contract.
-use mathlib.Core.Path.{◌≡◌, refl}
+use mathlib.Core.Path.{◌≡◌}
 use lib.ListN.{length}
 use Rattle.image.proofs.Puts.{blocks-none, blocks-turn, blocks-all}
 use borrow.Author.Rules.{rules}

@@ -1,7 +1,5 @@
 -- `image::pages::Source::put_blocks` meets its contract.
 use mathlib.Core.Path.{◌≡◌}
-use Prim.Native.Nat.{◌≤◌, ◌-◌}
-use lib.ListN.{length}
 use Rattle.field.specs.Bytes.{overlay}
 use Rattle.row.specs.Rules.{newest}
 use Rattle.image.specs.Save.{blocks}

@@ -1,8 +1,6 @@
 -- `image::rows::Pages::each_new` meets its contract.
-use mathlib.Core.Path.{refl}
-use native.Mathlib.Omega.{arith}
 use Rattle.image.proofs.Below.{below_none, below_end}
-use Rattle.image.proofs.Walk.{row-room, gathered_none, id-there, id-twice, id-gathered, id-once}
+use Rattle.image.proofs.Walk.{gathered_none, id-there, id-twice, id-gathered, id-once}
 use borrow.Author.Rules.{rules}
 use Rattle.image.proofs.rows.Pages.each_new.Goals as goal
 
@@ -10,12 +8,6 @@ use Rattle.image.proofs.rows.Pages.each_new.Goals as goal
 
 pub loop-k-init : goal.loop-k-init
 loop-k-init c = (gathered_none _ _, below_none _)
-
-pub place-at-requires : goal.place-at-requires
-place-at-requires c = let p = row-room c.args.self.now c.loop-k.k (omega arith) in omega arith
-
-pub read-requires : goal.read-requires
-read-requires c = let p = row-room c.args.self.now c.loop-k.k (omega arith) in omega arith
 
 pub enter-requires : goal.enter-requires
 enter-requires c = (c.loop-k.invariant.0.rising, search rules)
