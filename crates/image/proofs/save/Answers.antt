@@ -30,8 +30,5 @@ returns-then-out-size c = search save-short depth 14
 pub invariant_of-source : goal.invariant_of-source
 invariant_of-source c = let l : Fitting c.args.h.board.rows c.args.table.now = search save-limits in record { sized = l.0; few = l.1; count_is = c.blocks_for-count.ensures }
 
-pub put_blocks-requires : goal.put_blocks-requires
-put_blocks-requires c = search rules
-
 pub returns : goal.returns
 returns c = search save-whole depth 14

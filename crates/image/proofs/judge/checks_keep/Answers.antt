@@ -1,5 +1,5 @@
 -- `image::judge::checks_keep` meets its contract.
-use Rattle.image.proofs.Judged.{checks-none, checks-stop, checks-on, checks-end}
+use Rattle.image.proofs.Judged.{checks-none, checks-stop, checks-on}
 use Rattle.image.proofs.judge.checks_keep.Goals as goal
 
 pub loop-k-init : goal.loop-k-init
@@ -10,6 +10,3 @@ returns-then-not-check_keeps c = search checks-stop
 
 pub loop-k-preserved : goal.loop-k-preserved
 loop-k-preserved c = search checks-on
-
-pub returns : goal.returns
-returns c = search checks-end

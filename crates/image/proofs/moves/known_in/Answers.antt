@@ -1,6 +1,6 @@
 -- `image::moves::known_in` meets its contract.
 use native.Mathlib.Omega.{arith}
-use Rattle.image.proofs.Writes.{rows-inside, few-used, known-begin, known-turn, known-end}
+use Rattle.image.proofs.Writes.{rows-inside, few-used, known-begin, known-turn}
 use Rattle.image.proofs.moves.known_in.Goals as goal
 
 pub invariant_of-slots : goal.invariant_of-slots
@@ -19,6 +19,3 @@ loop-k-preserved c = (
   omega arith,
   known-turn c.args.image.now c.requires.0 c.args.used c.requires.1 c.loop-k.k (omega arith) c.loop-k.invariant.1 c.row.ensures.bytes c.known_times-total.ensures.0,
 )
-
-pub returns : goal.returns
-returns c = search known-end

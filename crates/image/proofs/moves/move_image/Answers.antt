@@ -1,6 +1,5 @@
 -- `image::moves::move_image` meets its contract.
 use mathlib.Core.Path.{◌≡◌}
-use native.Mathlib.Omega.{arith}
 use Rattle.image.specs.Restore.{verdict_of}
 use Rattle.std.specs.Prelude.{Ok, Err}
 use Rattle.std.proofs.lemmas.Result.{err_from_is_err_and}
@@ -18,9 +17,6 @@ invariant_of-moving c =
     let f : c.judge.result ≡ Ok (tt {0}) = c.in_ok-judge.was in
     let a : verdict_of c.args.image.now ≡ Ok (tt {0}) = search move-any depth 14 in
     record { judged = a; header_is = c.read-header.ensures; count_is = (count-here c.args.image.now a c.read-header.result c.read-header.ensures).0 }
-
-pub put_blocks-requires : goal.put_blocks-requires
-put_blocks-requires c = omega arith
 
 pub returns : goal.returns
 returns c = let f : c.judge.result ≡ Ok (tt {0}) = c.in_ok-judge.was in search move-whole depth 14

@@ -22,10 +22,6 @@ pub slice_bounds-at_row-end : goal.slice_bounds-at_row-end
 slice_bounds-at_row-end c =
     found-fits _ _ _ _ _ c.requires.fitting.0 c.find.ensures c.in-Here.is
 
-pub at_row-requires : goal.at_row-requires
-at_row-requires c =
-    (search rules, rowed c.requires)
-
 pub add-requires : goal.add-requires
 add-requires c =
     (rowed c.requires, (c.requires.fitting, place-fits _ _ _ _ _ c.find.ensures c.in-Absent.is))

@@ -1,5 +1,5 @@
 -- `image::rows::Pages::each_keeps` meets its contract.
-use Rattle.image.proofs.Below.{below_none, below_end}
+use Rattle.image.proofs.Below.{below_none}
 use Rattle.image.proofs.Walk.{row-breaks, row-good}
 use Rattle.image.proofs.rows.Pages.each_keeps.Goals as goal
 
@@ -11,6 +11,3 @@ returns-then-not-keep c = search row-breaks
 
 pub loop-k-preserved : goal.loop-k-preserved
 loop-k-preserved c = search row-good
-
-pub returns : goal.returns
-returns c = search below_end

@@ -1,7 +1,6 @@
 -- `image::rows::Pages::each_new` meets its contract.
-use Rattle.image.proofs.Below.{below_none, below_end}
+use Rattle.image.proofs.Below.{below_none}
 use Rattle.image.proofs.Walk.{gathered_none, id-there, id-twice, id-gathered, id-once}
-use borrow.Author.Rules.{rules}
 use Rattle.image.proofs.rows.Pages.each_new.Goals as goal
 
 -- the ids of the first k rows are gathered, and none of them is there twice
@@ -9,14 +8,8 @@ use Rattle.image.proofs.rows.Pages.each_new.Goals as goal
 pub loop-k-init : goal.loop-k-init
 loop-k-init c = (gathered_none _ _, below_none _)
 
-pub enter-requires : goal.enter-requires
-enter-requires c = (c.loop-k.invariant.0.rising, search rules)
-
 pub returns-then-not-enter : goal.returns-then-not-enter
 returns-then-not-enter c = search (id-twice, id-there)
 
 pub loop-k-preserved : goal.loop-k-preserved
 loop-k-preserved c = (search (id-gathered, id-there), search (id-once, id-there))
-
-pub returns : goal.returns
-returns c = search below_end
