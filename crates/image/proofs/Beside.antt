@@ -18,10 +18,10 @@ use Rattle.message.specs.Letters.{listed, event_codes}
 use Rattle.block.specs.Block.{head_size, body_size, head_at}
 use Rattle.block.specs.declared.Head.{Head}
 use Rattle.table.specs.Memory.{rows_fit}
-use Rattle.table.specs.Board.{fresh_board, fits}
+use Rattle.table.specs.Board.{fits}
 use Rattle.table.specs.Rules.{board_keeps}
 use Rattle.table.specs.declared.Board.{Board}
-use Rattle.image.specs.Header.{fresh_header, within_limits, flag, is_fresh, header_keeps, session_bytes, board_bytes, facts_size, first_body, header_of}
+use Rattle.image.specs.Header.{within_limits, flag, is_fresh, header_keeps, session_bytes, board_bytes, facts_size, first_body, header_of}
 use Rattle.image.specs.Restore.{facts_keep}
 use Rattle.image.specs.declared.Header.{Header}
 
@@ -100,9 +100,6 @@ unfolding first_body
 first-length h l = rw (length-append, length-append, session-length h l, board-length h.board)
 
 -- ---- read
-
-pub fresh-made : {b : Board} → b ≡ fresh_board → record { session = replicate 10 32; known = false; next = 1; board = b } ≡ fresh_header
-fresh-made e i = record { session = replicate 10 32; known = false; next = 1; board = e i }
 
 pub header_read : (image : List ℕ) {zs : List ℕ} {known event rows live : ℕ} {head : Head} → zs ≡ part image 14 10 → known ≡ be (part image 24 1) → head ≡ head_at image 0
     → rows ≡ be (part image 26 2) → event ≡ be (part image 25 1) → live ≡ be (part image 28 8)

@@ -94,9 +94,6 @@ pub accepted-long : (wanted : Wanted) (image : List ℕ) (v : Result (Unit {0}) 
 unfolding verdict_in
 accepted-long wanted image v e f = long image (accepted-if _ _ BadLength (sym e ∙ f))
 
-pub refused-with : (r : Refusal) {h : Header} → h ≡ fresh_header → restored (Err r) h ≡ restored (Err r) fresh_header
-refused-with r e = ap (restored (Err r)) e
-
 module _ (image mem : List ℕ) {w : Bool} (told : w ≡ is_table mem) where
   pub restore-unfit : {a : Restored} → a ≡ restored (Err Unfit) fresh_header → not w ≡ true → restoring a mem ≡ restore_of image mem
   unfolding restore_of restored_by

@@ -192,9 +192,6 @@ module _ (image : List ℕ) (a : verdict_of image ≡ Ok (tt {0})) (h : Header) 
   pub rows-here : h.board.rows ≤ most_rows
   rows-here = rw eh (rows_few image (kept Any image a).0)
 
-  pub body-rows : h.board.rows ≡ (header_of image).board.rows
-  body-rows = ap (λ (x : Header). x.board.rows) eh
-
   pub count-here : (count_of image ≡ blocks_for h.board.rows) × (count_of image * block_size ≡ length image) × (count_of image ≤ most_blocks)
   count-here = let k = (kept Any image a).0 in (rw eh (sym (count-is image k)), k.size.whole, k.size.few)
 
@@ -277,9 +274,6 @@ few-used image e used eu = rw eu (rows_few image (kept Any image e).0)
 pub known-begin : (mem : List ℕ) → 0 ≡ known_in 0 mem
 unfolding known_in
 known-begin mem = refl
-
-pub known-end : (mem : List ℕ) (k used : ℕ) {total : ℕ} → total ≡ known_in k mem → k ≤ used → used ≤ k → total ≡ known_in used mem
-known-end mem k used t f g = let i : k ≡ used = omega arith in t ∙ ap (λ (n : ℕ). known_in n mem) i
 
 -- the ways through what is lost
 module _ (image : List ℕ) {v : Result (Unit {0}) Refusal} (ev : v ≡ verdict_in Newest image) where

@@ -1,4 +1,5 @@
-// What is saved beside the rows: its rules, and the body of block 0 that holds it.
+// What is saved beside the rows: its rules, and the body of block 0 that holds it. What writes takes the whole output and a place in it, here and in the
+// blocks, and no slice of it: a clause says of every byte of the output what it is, which a slice would have to be laid back into.
 ghost use Rattle.std.specs.Prelude.{◌≡◌, ◌+◌, ◌≤◌, length};
 ghost use Rattle.field.specs.Bytes.{overlay};
 ghost use Rattle.block.specs.Block.{block_size, body_size};
@@ -64,7 +65,7 @@ pub fn put(out: &mut [u8], at: usize, h: Header)
     field::fill(out, at + FACTS_SIZE, block::BODY_SIZE - FACTS_SIZE, 0);
 }
 
-// What block 0 says.
+// What block 0 says. An image is a slice of many blocks, so that the first is there by a premise, here and in the next two.
 pub fn read(image: &[u8]) -> Header
     requires { block_size ≤ length image.now }
     ensures { result ≡ header_of image.now }

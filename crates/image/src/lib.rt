@@ -24,7 +24,8 @@ pub const PAGE_ROWS: usize = 4;
 
 pub const MOST_BLOCKS: usize = 1 + table::MOST_ROWS / PAGE_ROWS;
 
-// What is saved beside the rows.
+// What is saved beside the rows. The ten bytes and the flag, and no Option of a session: the bytes are written where it is unknown too
+// (`session_bytes`).
 #[derive(Clone, Copy)]
 pub struct Header {
     // Ten spaces while no session is known.
@@ -58,13 +59,15 @@ pub enum Wanted {
     Newest,
 }
 
-// An image is moved to version 3, or back to the one that its rows had before.
+// An image is moved to version 3, or back to the one that its rows had before. A value that is handed down, and no closure: the clauses name the
+// definition of what it does to a row (`along way`), which a closure's own postcondition would only hide.
 #[derive(Clone, Copy)]
 pub enum Way {
     Forward,
     Back,
 }
 
+// Verdict and header, and no Result of a header: a refusal too gives a header, that of a fresh reader (`restore_of`, theorem `Verdicts.refused-leaves`).
 #[derive(Clone, Copy)]
 pub struct Restored {
     pub verdict: Result<(), Refusal>,

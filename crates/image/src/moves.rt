@@ -92,6 +92,7 @@ impl Moving<'_> {
     }
 }
 
+// The rules of a move by its way: two fixed answers each, and no `From`, since neither is another spelling of the way.
 impl Way {
     fn wanted(self) -> Wanted
         ensures { result ≡ wanted_by self }
@@ -164,7 +165,7 @@ fn known_in(image: &[u8], used: usize) -> usize
     total
 }
 
-// How many times a move back of the image loses: 0 where it is refused.
+// How many times a move back of the image loses. A move that is refused loses none (`lost_of`), so that this can't fail, and gives no Result.
 pub fn lost(image: &[u8]) -> usize
     ensures { result ≡ lost_of image.now }
 {
