@@ -29,8 +29,7 @@ use Rattle.image.specs.Save.{page_of, body_of, saved_block, blocks, image_in}
 use Rattle.image.specs.Restore.{count_of, length_keeps, checks_keep, head_keeps, heads_keep, facts_keep, slots_keep, contents_keep, version_of, verdict_in, rows_of}
 use Rattle.image.specs.declared.Refusal.{Refusal}
 use Rattle.image.specs.declared.Refusal.TheVariants.{BadLength, BadCheck, BadHead, BadContents}
-use Rattle.std.specs.Prelude.{Result}
-use Rattle.std.specs.Prelude.{Ok, Err}
+use Rattle.std.specs.Prelude.{Result, Ok, Err}
 use Rattle.image.specs.declared.Wanted.{Wanted}
 use Rattle.image.proofs.Below.{below_at}
 use Rattle.image.proofs.Laid.{pages-length, pages-part}

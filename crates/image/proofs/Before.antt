@@ -32,9 +32,8 @@ use Rattle.image.specs.Moves.{moved_of}
 use Rattle.image.specs.Before.{Program, before_w208, before_w209, Former, table_size_of, most_blocks_of, is_table_of, widened, length_kept, head_kept, heads_kept, slots_kept, contents_kept, verdict_before, memory_before, restored_by_before, restore_before, within_limits_of, image_before, save_before}
 use Rattle.image.specs.declared.Header.{Header}
 use Rattle.image.specs.declared.Refusal.TheVariants.{Unfit, BadLength, BadCheck, BadHead, BadContents, ShortOutput}
-use Rattle.std.specs.Prelude.{Result}
+use Rattle.std.specs.Prelude.{Result, Ok, Err}
 use Rattle.image.specs.declared.Refusal.{Refusal}
-use Rattle.std.specs.Prelude.{Ok, Err}
 use Rattle.image.specs.declared.Wanted.TheVariants.{Any, Older}
 use Rattle.image.specs.declared.Way.TheVariants.{Forward, Back}
 use Rattle.image.proofs.Below.{below-same, below_at, below-stop}

@@ -5,22 +5,23 @@ use mathlib.Core.Bool.{Bool, true, false, ◌&&◌, ◌||◌, cond}
 use mathlib.Core.List.{List, [], ◌∷◌, ◌++◌, append-nil}
 use Prim.Native.Nat.{ℕ, ◌+◌, ◌-◌, ◌≤◌}
 use native.Mathlib.Omega.{arith}
+use mir.Val.{bool_byte}
 use lib.Dec.{eqb, leb}
 use lib.ListN.{length, length-append, replicate}
 use Rattle.field.specs.Bytes.{part, overlay, digits, be, bytes_be}
 use Rattle.field.specs.Limits.{number_in_range}
 use Rattle.field.specs.Text.{every, is_space, is_zero}
-use Rattle.field.proofs.Parts.{part_length, part-whole, overlay-whole, overlay-next}
+use Rattle.field.proofs.Parts.{part-whole, overlay-next}
 use Rattle.field.proofs.Numbers.{digits-length}
 use Rattle.field.proofs.Writes.{piece, run-joined}
 use Rattle.message.specs.Letters.{listed, event_codes}
-use Rattle.block.specs.Block.{block_size, head_size, body_size, head_at}
+use Rattle.block.specs.Block.{head_size, body_size, head_at}
 use Rattle.block.specs.declared.Head.{Head}
 use Rattle.table.specs.Memory.{rows_fit}
-use Rattle.table.specs.Board.{fresh_board, fits}
+use Rattle.table.specs.Board.{fits}
 use Rattle.table.specs.Rules.{board_keeps}
 use Rattle.table.specs.declared.Board.{Board}
-use Rattle.image.specs.Header.{fresh_header, within_limits, flag, is_fresh, header_keeps, session_bytes, board_bytes, facts_size, first_body, header_of}
+use Rattle.image.specs.Header.{within_limits, flag, is_fresh, header_keeps, session_bytes, board_bytes, facts_size, first_body, header_of}
 use Rattle.image.specs.Restore.{facts_keep}
 use Rattle.image.specs.declared.Header.{Header}
 
@@ -59,12 +60,17 @@ pub session-length : (h : Header) → length h.session ≡ 10 → length (sessio
 unfolding session_bytes
 session-length h l = rw (length-append, l, digits-length)
 
+-- a flag is the byte that `u8::from` makes
+pub flag-byte : (b : Bool) → bool_byte b ≡ flag b
+flag-byte true = refl
+flag-byte false = refl
+
 pub session-put : (xs : List ℕ) (at : ℕ) (h : Header) {f : ℕ} {us zs : List ℕ} → length h.session ≡ 10 → at + 11 ≤ length xs
-    → us ≡ overlay xs at (part h.session 0 10) → f ≡ flag h.known → zs ≡ overlay us (at + 10) (bytes_be 1 f)
+    → us ≡ overlay xs at h.session → f ≡ flag h.known → zs ≡ overlay us (at + 10) (bytes_be 1 f)
     → zs ≡ overlay xs at (session_bytes h)
 unfolding session_bytes
 session-put xs at h l n a e b =
-    b ∙ rw (a, e, part-whole h.session 10 l, ← l)
+    b ∙ rw (a, e, ← l)
     (overlay-next xs at h.session (bytes_be 1 (flag h.known)) (omega (arith, digits-length 256 1 (flag h.known))))
 
 pub board-length : (b : Board) → length (board_bytes b) ≡ 11
@@ -95,14 +101,9 @@ first-length h l = rw (length-append, length-append, session-length h l, board-l
 
 -- ---- read
 
-pub fresh-made : {b : Board} → b ≡ fresh_board → record { session = replicate 10 32; known = false; next = 1; board = b } ≡ fresh_header
-fresh-made e i = record { session = replicate 10 32; known = false; next = 1; board = e i }
-
-pub header_read : (image : List ℕ) {zs : List ℕ} {known event rows live : ℕ} {head : Head} → block_size ≤ length image
-    → zs ≡ overlay (replicate 10 0) 0 (part image 14 10) → known ≡ be (part image 24 1) → head ≡ head_at image 0
+pub header_read : (image : List ℕ) {zs : List ℕ} {known event rows live : ℕ} {head : Head} → zs ≡ part image 14 10 → known ≡ be (part image 24 1) → head ≡ head_at image 0
     → rows ≡ be (part image 26 2) → event ≡ be (part image 25 1) → live ≡ be (part image 28 8)
     → record { session = zs; known = eqb known 1; next = head.next; board = record { rows = rows; event = event; live = live } } ≡ header_of image
 unfolding header_of
-header_read image l e k n a b c =
-    let s = e ∙ overlay-whole (replicate 10 0) (part image 14 10) (part_length image 14 10 (omega arith)) in
-    λ i. record { session = s i; known = eqb (k i) 1; next = (n i).next; board = record { rows = a i; event = b i; live = c i } }
+header_read image e k n a b c =
+    λ i. record { session = e i; known = eqb (k i) 1; next = (n i).next; board = record { rows = a i; event = b i; live = c i } }

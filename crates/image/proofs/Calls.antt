@@ -18,8 +18,7 @@ use Rattle.image.specs.Restore.{verdict_in}
 use Rattle.image.specs.Moves.{wanted_by, version_after, moved_of, moved_by, move_of, AllUnknown}
 use Rattle.image.specs.declared.Refusal.{Refusal}
 use Rattle.image.specs.declared.Refusal.TheVariants.{ShortOutput}
-use Rattle.std.specs.Prelude.{Result}
-use Rattle.std.specs.Prelude.{Ok, Err}
+use Rattle.std.specs.Prelude.{Result, Ok, Err}
 use Rattle.image.specs.declared.Way.{Way}
 use Rattle.image.specs.declared.Way.TheVariants.{Forward, Back}
 use Rattle.image.proofs.Again.{Kept, kept}

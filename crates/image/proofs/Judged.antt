@@ -29,7 +29,6 @@ use Rattle.image.specs.declared.Header.{Header}
 use Rattle.image.specs.declared.Refusal.TheVariants.{BadLength, BadCheck, BadHead, BadContents}
 use Rattle.std.specs.Prelude.{Ok, Err}
 use Rattle.image.specs.declared.Wanted.{Wanted}
-use Rattle.image.specs.declared.Wanted.TheVariants.{Older, Newest}
 use Rattle.image.proofs.Below.{was-no, was-yes, below_none, below-turn, below-stop, below_end}
 use Rattle.image.proofs.Laid.{pages-length, pages-part}
 use Rattle.image.proofs.Puts.{image-pages}
@@ -57,10 +56,6 @@ pub checks-on : (image : List ℕ) (k : ℕ) {r : Bool} → r ≡ check_keeps im
     → checks_keep image (k + 1) ≡ true
 unfolding checks_keep
 checks-on image k e n a = below-turn (λ j. check_keeps image (j * block_size)) k a (was-yes e n)
-
-pub checks-end : (image : List ℕ) (count k : ℕ) → k ≤ count → count ≤ k → checks_keep image k ≡ true → true ≡ checks_keep image count
-unfolding checks_keep
-checks-end image count k h g e = below_end (λ j. check_keeps image (j * block_size)) k count h g e
 
 -- ---- the heads
 
@@ -100,12 +95,6 @@ heads-on image count h k f n a = below-turn (head_keeps image count h) k a (was-
 pub version-read : (image : List ℕ) {head : Head} → head ≡ head_at image 0 → head.version ≡ version_of image
 unfolding version_of
 version-read image e = ap (λ (h : Head). h.version) e
-
-pub welcome-older : (version : ℕ) {wanted : Wanted} → wanted ≡ Older → not (eqb version newest) ≡ welcome wanted version
-welcome-older version e = rw e
-
-pub welcome-newest : (version : ℕ) {wanted : Wanted} → wanted ≡ Newest → eqb version newest ≡ welcome wanted version
-welcome-newest version e = rw e
 
 pub old-first : (rows : ℕ) → rows ≤ rows_of_version1 → 1 ≡ old_version rows
 unfolding old_version

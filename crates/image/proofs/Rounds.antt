@@ -28,8 +28,7 @@ use Rattle.image.specs.Restore.{version_of, verdict_of, rows_of, memory_of, Rest
 use Rattle.image.specs.declared.Header.{Header}
 use Rattle.image.specs.declared.Refusal.{Refusal}
 use Rattle.image.specs.declared.Refusal.TheVariants.{Unfit, BadContents, ShortOutput}
-use Rattle.std.specs.Prelude.{Result}
-use Rattle.std.specs.Prelude.{Ok, Err}
+use Rattle.std.specs.Prelude.{Result, Ok, Err}
 use Rattle.image.specs.Moves.{moved_of}
 use Rattle.image.specs.declared.Wanted.TheVariants.{Any}
 use Rattle.image.specs.declared.Way.TheVariants.{Forward}

@@ -11,19 +11,11 @@ use Rattle.field.specs.Bytes.{part, overlay}
 use Rattle.field.proofs.Parts.{part-back}
 use Rattle.row.specs.Fields.{row_size}
 use Rattle.row.specs.Rules.{newest}
-use Rattle.row.specs.Moves.{forward_row, back_row}
 use Rattle.table.specs.Memory.{row, with_row, each_row}
 use Rattle.image.specs.Restore.{renewed}
-use Rattle.image.specs.Moves.{version_after, along}
-use Rattle.image.specs.Shape.{old_version}
+use Rattle.image.specs.Moves.{along}
 use Rattle.image.specs.declared.Way.{Way}
-use Rattle.image.specs.declared.Way.TheVariants.{Forward, Back}
-
-pub go-forward : (xs : List ℕ) {way : Way} {zs : List ℕ} → way ≡ Forward → zs ≡ forward_row xs → zs ≡ along way xs
-go-forward xs e f = rw e f
-
-pub go-back : (xs : List ℕ) {way : Way} {zs : List ℕ} → way ≡ Back → zs ≡ back_row xs → zs ≡ along way xs
-go-back xs e f = rw e f
+use Rattle.image.specs.declared.Way.TheVariants.{Forward}
 
 -- row k, lent and given back
 pub gone : (k : ℕ) (mem : List ℕ) (way : Way) {r : List ℕ} → k * row_size + row_size ≤ length mem → r ≡ along way (part mem (k * row_size) (k * row_size + row_size - k * row_size))
@@ -40,6 +32,3 @@ renew-older xs version rows n e = rw (ne_eqb version newest n) e
 pub renew-newest : (xs : List ℕ) (version rows : ℕ) → version ≡ newest → xs ≡ renewed version rows xs
 unfolding renewed
 renew-newest xs version rows e = rw (eq-eqb version newest e)
-
-pub after-back : (rows : ℕ) {way : Way} {v : ℕ} → way ≡ Back → v ≡ old_version rows → v ≡ version_after way rows
-after-back rows e f = rw e f

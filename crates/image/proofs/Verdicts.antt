@@ -21,8 +21,7 @@ use Rattle.image.specs.Restore.{count_of, length_keeps, checks_keep, head_keeps,
 use Rattle.image.specs.declared.Header.{Header}
 use Rattle.image.specs.declared.Refusal.{Refusal}
 use Rattle.image.specs.declared.Refusal.TheVariants.{Unfit, BadCheck, BadHead, BadContents, ShortOutput}
-use Rattle.std.specs.Prelude.{Result}
-use Rattle.std.specs.Prelude.{Ok, Err}
+use Rattle.std.specs.Prelude.{Result, Ok, Err}
 use Rattle.image.specs.declared.Restored.{Restored}
 use Rattle.image.specs.declared.Wanted.{Wanted}
 use Rattle.image.proofs.Below.{below-stop}

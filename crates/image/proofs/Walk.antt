@@ -3,14 +3,15 @@
 use mathlib.Core.Path.{◌≡◌, refl, sym, ap, subst, ◌∙◌}
 use mathlib.Core.Bool.{Bool, true, false, ◌&&◌, not, and-false}
 use mathlib.Core.List.{List}
-use Prim.Native.Nat.{ℕ, zero, suc, ◌+◌, ◌-◌, ◌<◌}
-use native.Mathlib.Nat.{not-suc-le-zero}
+use Prim.Native.Nat.{ℕ, zero, suc, ◌+◌, ◌-◌, ◌≤◌, ◌<◌}
+use native.Mathlib.Nat.{add-zero, not-suc-le-zero}
 use native.Mathlib.Decide.{ℕ_discrete}
 use native.Mathlib.Omega.{arith}
 use lib.Dec.{eqb}
-use lib.ListN.{take, drop}
+use lib.ListN.{length, take, drop}
 use borrow.Author.Tests.{eq-eqb, ne_eqb}
 use Rattle.field.specs.Bytes.{part, be}
+use Rattle.field.proofs.Parts.{part_length, part-part}
 use Rattle.message.proofs.Layouts.{never}
 use Rattle.row.specs.Fields.{row_size, id_of}
 use Rattle.row.specs.Rules.{row_keeps}
@@ -18,10 +19,12 @@ use Rattle.table.specs.Memory.{row}
 use Rattle.table.specs.Rules.{lacks, new_id, rows_keep}
 use Rattle.table.proofs.Search.{row-id}
 use Rattle.table.proofs.Rows.{lacks-same}
-use Rattle.image.specs.Shape.{pages_for, pages, PagesIn, place_of, all_below}
+use Rattle.image.specs.Shape.{pages_for, place_of, all_below}
 use Rattle.image.specs.Ids.{good_row, own_id, Rising, Among, With, Entered}
 use Rattle.image.proofs.Below.{was-no, was-yes, below-turn, below-stop, below_all}
-use Rattle.image.proofs.Laid.{row-page, place-row, place-id}
+use Rattle.image.specs.Held.{rows_in, row_in}
+use Rattle.image.specs.declared.rows.Pages.{Pages}
+use Rattle.image.proofs.Laid.{row_fits, row-page, place-row, place-id}
 
 -- ---- the rules look at the rows alone
 
@@ -146,17 +149,29 @@ pub lent : (s : List ℕ) (at : ℕ) → take (at + row_size - at) (drop at s) �
 unfolding part
 lent s at = let e : at + row_size - at ≡ row_size = omega arith in rw e
 
-module _ (s : List ℕ) (base stride rows k at : ℕ) (f : PagesIn s base stride (pages_for rows)) (h : k < rows) (ea : at ≡ place_of base stride k) where
-  pub id-there : {id : ℕ} → id ≡ be (part s at 4) → id ≡ id_of (row k (pages s base stride (pages_for rows)))
-  id-there e = e ∙ rw ea (place-id s base stride (pages_for rows) k f (row-page rows k h)) ∙ row-id k _
+-- a row in pages lies within the bytes
+pub row-room : (p : Pages) (k : ℕ) → k < p.rows → place_of p.base p.stride k + row_size ≤ length p.bytes.now
+row-room p k h = row_fits p.bytes.now p.base p.stride p.rows k p.inside h
 
-  module _ (v : ℕ) (r : Bool) (er : r ≡ row_keeps v (take (at + row_size - at) (drop at s))) where
-    row-k : r ≡ good_row v (pages s base stride (pages_for rows)) k
-    row-k = er ∙ rw (lent s at, ea, place-row s base stride (pages_for rows) k f (row-page rows k h))
+pub lent-whole : (s : List ℕ) (at : ℕ) → at + row_size ≤ length s → length (take (at + row_size - at) (drop at s)) ≡ row_size
+lent-whole s at h = ap length (lent s at) ∙ part_length s at row_size h
 
-    pub row-breaks : not r ≡ true → false ≡ all_below (good_row v (pages s base stride (pages_for rows))) rows
-    row-breaks e = below-stop (good_row v _) k rows h (was-no row-k e)
+module _ (p : Pages) (k : ℕ) (h : k < p.rows) {bytes : List ℕ} (its : bytes ≡ row_in p k) where
+  is-row : bytes ≡ row k (rows_in p)
+  is-row = its ∙ sym (place-row p.bytes.now p.base p.stride (pages_for p.rows) k p.inside (row-page p.rows k h))
 
-    pub row-good : not r ≡ false → all_below (good_row v (pages s base stride (pages_for rows))) k ≡ true
-        → all_below (good_row v (pages s base stride (pages_for rows))) (k + 1) ≡ true
-    row-good e g = below-turn (good_row v _) k g (was-yes row-k e)
+  pub id-there : {id : ℕ} → id ≡ be (part bytes 0 4) → id ≡ id_of (row k (rows_in p))
+  id-there e =
+      let f : part (row_in p k) 0 4 ≡ part p.bytes.now (place_of p.base p.stride k) 4 = rw add-zero at (part-part p.bytes.now (place_of p.base p.stride k) row_size 0 4 (omega arith)) in
+      e ∙ ap (λ (b : List ℕ). be (part b 0 4)) its ∙ ap be f
+      ∙ place-id p.bytes.now p.base p.stride (pages_for p.rows) k p.inside (row-page p.rows k h) ∙ row-id k _
+
+  module _ (v : ℕ) (r : Bool) (er : r ≡ row_keeps v bytes) where
+    row-k : r ≡ good_row v (rows_in p) k
+    row-k = er ∙ ap (row_keeps v) is-row
+
+    pub row-breaks : not r ≡ true → false ≡ all_below (good_row v (rows_in p)) p.rows
+    row-breaks e = below-stop (good_row v (rows_in p)) k p.rows h (was-no row-k e)
+
+    pub row-good : not r ≡ false → all_below (good_row v (rows_in p)) k ≡ true → all_below (good_row v (rows_in p)) (k + 1) ≡ true
+    row-good e g = below-turn (good_row v (rows_in p)) k g (was-yes row-k e)

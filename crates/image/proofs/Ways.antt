@@ -25,8 +25,7 @@ use Rattle.image.specs.Restore.{count_of, version_of, verdict_in, verdict_of, ro
 use Rattle.image.specs.declared.Header.{Header}
 use Rattle.image.specs.declared.Refusal.{Refusal}
 use Rattle.image.specs.declared.Refusal.TheVariants.{Unfit, BadLength, BadContents, ShortOutput}
-use Rattle.std.specs.Prelude.{Result}
-use Rattle.std.specs.Prelude.{Ok, Err}
+use Rattle.std.specs.Prelude.{Result, Ok, Err}
 use Rattle.image.specs.declared.Restored.{Restored}
 use Rattle.image.specs.declared.Wanted.{Wanted}
 use Rattle.image.proofs.Below.{was-no, was-yes}
@@ -94,9 +93,6 @@ accepted-if false v r e = let z : Err r ≡ Ok (tt {0}) = e in cc
 pub accepted-long : (wanted : Wanted) (image : List ℕ) (v : Result (Unit {0}) Refusal) → v ≡ verdict_in wanted image → v ≡ Ok (tt {0}) → Long image
 unfolding verdict_in
 accepted-long wanted image v e f = long image (accepted-if _ _ BadLength (sym e ∙ f))
-
-pub refused-with : (r : Refusal) {h : Header} → h ≡ fresh_header → restored (Err r) h ≡ restored (Err r) fresh_header
-refused-with r e = ap (restored (Err r)) e
 
 module _ (image mem : List ℕ) {w : Bool} (told : w ≡ is_table mem) where
   pub restore-unfit : {a : Restored} → a ≡ restored (Err Unfit) fresh_header → not w ≡ true → restoring a mem ≡ restore_of image mem

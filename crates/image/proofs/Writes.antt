@@ -1,6 +1,6 @@
 -- The blocks of a moved image, made by writes one after the other.
 -- Assumes nothing.
-use mathlib.Core.Path.{◌≡◌, refl, sym, ap, ◌∙◌}
+use mathlib.Core.Path.{◌≡◌, refl, sym, ap, subst, ◌∙◌}
 use mathlib.Core.Bool.{Bool, true, false, cond}
 use mathlib.Core.List.{List}
 use Prim.Native.Nat.{ℕ, ◌+◌, ◌-◌, ◌*◌, ◌≤◌, ◌<◌}
@@ -19,7 +19,7 @@ use Rattle.row.specs.Fields.{row_size}
 use Rattle.row.specs.Moves.{known_times}
 use Rattle.table.specs.Memory.{most_rows, table_size, row_at, row, each_row}
 use Rattle.table.proofs.Each.{rows_whole, each-length, each-past, each_row_lem}
-use Rattle.image.specs.Shape.{page_rows, pages_for, blocks_for, most_blocks, head_for, place_of, first_page}
+use Rattle.image.specs.Shape.{page_rows, pages_for, blocks_for, most_blocks, head_for, PagesIn, place_of, first_page}
 use Rattle.image.specs.Header.{header_of}
 use Rattle.image.specs.Save.{page_of, body_of, saved_block, blocks, image_in, saving, unsaved}
 use Rattle.image.specs.Restore.{count_of, verdict_in, verdict_of, rows_of}
@@ -27,13 +27,12 @@ use Rattle.image.specs.Moves.{used_in, wanted_by, version_after, along, moved_of
 use Rattle.image.specs.declared.Header.{Header}
 use Rattle.image.specs.declared.Refusal.{Refusal}
 use Rattle.image.specs.declared.Refusal.TheVariants.{ShortOutput}
-use Rattle.std.specs.Prelude.{Result}
-use Rattle.std.specs.Prelude.{Ok, Err}
+use Rattle.std.specs.Prelude.{Result, Ok, Err}
 use Rattle.image.specs.declared.Wanted.{Wanted}
 use Rattle.image.specs.declared.Wanted.TheVariants.{Any, Newest}
 use Rattle.image.specs.declared.Way.{Way}
-use Rattle.image.proofs.Laid.{pages-part, row_fits}
-use Rattle.image.proofs.Walk.{lent}
+use Rattle.image.specs.declared.moves.Moving.{Moving}
+use Rattle.image.proofs.Laid.{pages-part}
 use Rattle.image.proofs.Zeros.{cleared-own}
 use Rattle.image.proofs.Again.{Kept, kept, count-is, pages-are, within, memory_start, rows_few, rows-length}
 use Rattle.image.proofs.Renewed.{along-size, moved_row, moved_length, moved-blank}
@@ -172,6 +171,18 @@ module _ (image : List ℕ) (a : verdict_of image ≡ Ok (tt {0})) (way : Way) (
       ap (λ (x : ℕ). put_mid at x us r) em ∙ part-back at (at + body_size) us r (omega arith) (omega arith) (l ∙ em)
       ∙ ap (λ (x : List ℕ). overlay x at r) eu ∙ overlay-again xs at p r (lp ∙ sym (l ∙ d)) (omega arith) ∙ ap (overlay xs at) (sym pm)
 
+-- of an image on its way
+module _ (m : Moving) where
+  pub rows-are : m.header.board.rows ≡ (header_of m.image.now).board.rows
+  rows-are = ap (λ (h : Header). h.board.rows) m.header_is
+
+  module _ (k : ℕ) (h : k < pages_for m.header.board.rows) where
+    pub page-room : (first_page + k * block_size + body_size ≤ length m.image.now) × (k < most_blocks)
+    page-room = image-long m.image.now m.judged m.way m.header.board.rows k rows-are h
+
+    pub page-used : used_in m.header.board.rows k ≤ page_rows
+    page-used = used-small m.image.now m.judged m.way m.header.board.rows k rows-are h
+
 record Sizes (h : Header) (mem : List ℕ) : Type 0 where
   session : length h.session ≡ 10
   sized : length mem ≡ table_size
@@ -180,9 +191,6 @@ record Sizes (h : Header) (mem : List ℕ) : Type 0 where
 module _ (image : List ℕ) (a : verdict_of image ≡ Ok (tt {0})) (h : Header) (eh : h ≡ header_of image) where
   pub rows-here : h.board.rows ≤ most_rows
   rows-here = rw eh (rows_few image (kept Any image a).0)
-
-  pub body-rows : h.board.rows ≡ (header_of image).board.rows
-  body-rows = ap (λ (x : Header). x.board.rows) eh
 
   pub count-here : (count_of image ≡ blocks_for h.board.rows) × (count_of image * block_size ≡ length image) × (count_of image ≤ most_blocks)
   count-here = let k = (kept Any image a).0 in (rw eh (sym (count-is image k)), k.size.whole, k.size.few)
@@ -246,18 +254,19 @@ module _ (way : Way) (image out : List ℕ) {w : Wanted} (ew : w ≡ wanted_by w
 
 -- ---- the times that are counted
 
-module _ (image : List ℕ) (e : verdict_of image ≡ Ok (tt {0})) (used : ℕ) (eu : used ≡ (header_of image).board.rows) (k at : ℕ) (h : k < used) (ea : at ≡ place_of first_page block_size k) where
+module _ (image : List ℕ) (e : verdict_of image ≡ Ok (tt {0})) (used : ℕ) (eu : used ≡ (header_of image).board.rows) where
   one : Kept image
   one = (kept Any image e).0
 
-  pub row_inside : place_of first_page block_size k + row_size ≤ length image
-  row_inside =
+  pub rows-inside : PagesIn image first_page block_size (pages_for used)
+  rows-inside =
       let n : count_of image - 1 ≡ pages_for (header_of image).board.rows = pages-are (header_of image).board.rows (count_of image) (count-is image one) in
-      row_fits image first_page block_size (header_of image).board.rows k (rw n at (within image one)) (rw eu at h)
+      subst (λ (u : ℕ). PagesIn image first_page block_size (pages_for u)) (sym eu) (rw n at (within image one))
 
-  pub known-turn : {total n : ℕ} → total ≡ known_in k (rows_of image) → n ≡ known_times (take (at + row_size - at) (drop at image)) → total + n ≡ known_in (k + 1) (rows_of image)
+  pub known-turn : (k : ℕ) → k < used → {total n : ℕ} {bytes : List ℕ} → total ≡ known_in k (rows_of image)
+      → bytes ≡ part image (place_of first_page block_size k) row_size → n ≡ known_times bytes → total + n ≡ known_in (k + 1) (rows_of image)
   unfolding known_in
-  known-turn t g = rw (add-one, t, g, lent image at, ea, rows_are image one k (rw eu at h))
+  known-turn k h t eb g = rw (add-one, t, g, eb, rows_are image one k (rw eu at h))
 
 pub few-used : (image : List ℕ) → verdict_of image ≡ Ok (tt {0}) → (used : ℕ) → used ≡ (header_of image).board.rows → used ≤ most_rows
 few-used image e used eu = rw eu (rows_few image (kept Any image e).0)
@@ -265,9 +274,6 @@ few-used image e used eu = rw eu (rows_few image (kept Any image e).0)
 pub known-begin : (mem : List ℕ) → 0 ≡ known_in 0 mem
 unfolding known_in
 known-begin mem = refl
-
-pub known-end : (mem : List ℕ) (k used : ℕ) {total : ℕ} → total ≡ known_in k mem → k ≤ used → used ≤ k → total ≡ known_in used mem
-known-end mem k used t f g = let i : k ≡ used = omega arith in t ∙ ap (λ (n : ℕ). known_in n mem) i
 
 -- the ways through what is lost
 module _ (image : List ℕ) {v : Result (Unit {0}) Refusal} (ev : v ≡ verdict_in Newest image) where

@@ -1,7 +1,7 @@
--- Result ℕ Refusal tables as the programs of before had them. Until W-208 a table had at most 256 rows and an image version 1; until W-209 a table had at most 500, and
+-- Saved tables as the programs of before had them. Until W-208 a table had at most 256 rows and an image version 1; until W-209 a table had at most 500, and
 -- an image version 1 for up to 256 rows and version 2 for more. Neither knew the times of the sides. The rules that stayed are not said again.
 -- Assumes nothing.
-use Rattle.std.specs.Prelude.{ℕ, ◌+◌, ◌-◌, ◌*◌, ◌/◌, ◌%◌, ◌≤◌, ◌≡◌, Bool, ◌&&◌, cond, List, ◌++◌, eqb, leb, length, drop, replicate}
+use Rattle.std.specs.Prelude.{ℕ, ◌+◌, ◌-◌, ◌*◌, ◌/◌, ◌%◌, ◌≤◌, ◌≡◌, Bool, ◌&&◌, cond, List, ◌++◌, eqb, leb, length, drop, replicate, Result, Ok, Err}
 use Rattle.field.specs.Bytes.{overlay}
 use Rattle.field.specs.Limits.{number_in_range}
 use Rattle.field.specs.Text.{every, is_zero}
@@ -16,9 +16,7 @@ use Rattle.image.specs.Save.{image_in, size_for, Saving, saving, unsaved}
 use Rattle.image.specs.Restore.{count_of, checks_keep, facts_keep, Restoring, restored, restoring}
 use Rattle.image.specs.declared.Header.{Header}
 use Rattle.image.specs.declared.Refusal.TheVariants.{Unfit, BadLength, BadCheck, BadHead, BadContents, ShortOutput}
-use Rattle.std.specs.Prelude.{Result}
 use Rattle.image.specs.declared.Refusal.{Refusal}
-use Rattle.std.specs.Prelude.{Ok, Err}
 
 -- ---- the programs
 

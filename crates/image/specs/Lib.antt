@@ -5,3 +5,4 @@ pub mod Save
 pub mod Restore
 pub mod Before
 pub mod Moves
+pub mod Held

@@ -1,6 +1,6 @@
 -- W-209. Moving a whole image to version 3 and back: what a move answers and leaves in the output, and how many times the way back loses.
 -- Assumes nothing.
-use Rattle.std.specs.Prelude.{ℕ, zero, suc, ◌+◌, ◌-◌, ◌*◌, ◌<◌, cond, List, leb, length}
+use Rattle.std.specs.Prelude.{ℕ, zero, suc, ◌+◌, ◌-◌, ◌*◌, ◌<◌, cond, List, leb, length, Result, Ok, Err}
 use Rattle.field.specs.Bytes.{overlay}
 use Rattle.row.specs.Rules.{newest}
 use Rattle.row.specs.Moves.{forward_row, back_row, TimesUnknown, known_times}
@@ -10,9 +10,7 @@ use Rattle.image.specs.Header.{header_of}
 use Rattle.image.specs.Save.{image_in, Saving, saving, unsaved}
 use Rattle.image.specs.Restore.{rows_of, verdict_in}
 use Rattle.image.specs.declared.Refusal.TheVariants.{ShortOutput}
-use Rattle.std.specs.Prelude.{Result}
 use Rattle.image.specs.declared.Refusal.{Refusal}
-use Rattle.std.specs.Prelude.{Ok, Err}
 use Rattle.image.specs.declared.Wanted.{Wanted}
 use Rattle.image.specs.declared.Wanted.TheVariants.{Older, Newest}
 use Rattle.image.specs.declared.Way.{Way}

@@ -1,6 +1,6 @@
 -- What restoring answers, and what it leaves in table memory.
 -- Assumes nothing.
-use Rattle.std.specs.Prelude.{ℕ, ◌+◌, ◌-◌, ◌*◌, ◌/◌, ◌%◌, Bool, ◌&&◌, cond, List, ◌++◌, eqb, leb, length, drop, replicate}
+use Rattle.std.specs.Prelude.{ℕ, ◌+◌, ◌-◌, ◌*◌, ◌/◌, ◌%◌, Bool, ◌&&◌, cond, List, ◌++◌, eqb, leb, length, drop, replicate, Result, Ok, Err}
 use Rattle.field.specs.Bytes.{part, be}
 use Rattle.field.specs.Limits.{number_in_range}
 use Rattle.field.specs.Text.{every, is_zero}
@@ -13,9 +13,7 @@ use Rattle.image.specs.Shape.{blocks_for, most_blocks, version_fits, welcome, he
 use Rattle.image.specs.Header.{fresh_header, header_keeps, facts_size, header_of}
 use Rattle.image.specs.declared.Header.{Header}
 use Rattle.image.specs.declared.Refusal.TheVariants.{Unfit, BadLength, BadCheck, BadHead, BadContents}
-use Rattle.std.specs.Prelude.{Result}
 use Rattle.image.specs.declared.Refusal.{Refusal}
-use Rattle.std.specs.Prelude.{Ok, Err}
 use Rattle.image.specs.declared.Restored.{Restored}
 use Rattle.image.specs.declared.Wanted.{Wanted}
 use Rattle.image.specs.declared.Wanted.TheVariants.{Any}

@@ -1,6 +1,6 @@
 -- The image of a table, and what saving answers and leaves in the output.
 -- Assumes nothing.
-use Rattle.std.specs.Prelude.{ℕ, zero, suc, ◌-◌, ◌*◌, ◌&&◌, cond, List, [], ◌++◌, leb, length, replicate}
+use Rattle.std.specs.Prelude.{ℕ, zero, suc, ◌-◌, ◌*◌, ◌&&◌, cond, List, [], ◌++◌, leb, length, replicate, Result, Ok, Err}
 use Rattle.field.specs.Bytes.{part, overlay}
 use Rattle.block.specs.Block.{block_size, body_size, block_of}
 use Rattle.table.specs.Memory.{table_size, row_at}
@@ -11,8 +11,6 @@ use Rattle.image.specs.Header.{within_limits, header_keeps, first_body}
 use Rattle.image.specs.declared.Header.{Header}
 use Rattle.image.specs.declared.Refusal.{Refusal}
 use Rattle.image.specs.declared.Refusal.TheVariants.{Unfit, BadLength, BadCheck, BadHead, BadContents, ShortOutput}
-use Rattle.std.specs.Prelude.{Result}
-use Rattle.std.specs.Prelude.{Ok, Err}
 
 -- ---- the paper's number of each refusal
 abbrev pub refusal_number : Refusal → ℕ

@@ -8,25 +8,27 @@ ghost use Rattle.image.specs.Moves.{along};
 use crate::Way;
 use row::rules;
 
-// One row.
-fn go(row: &mut [u8], way: Way)
-    requires { row_size ≤ length row.old }
-    ensures { row.new ≡ along way row.old }
-{
-    match way {
-        Way::Forward => row::moves::forward(row),
-        Way::Back => row::moves::back(row),
+impl Way {
+    // One row.
+    fn go(self, row: &mut [u8])
+        requires { row_size ≤ length row.old }
+        ensures { row.new ≡ along self row.old }
+    {
+        match self {
+            Way::Forward => row::moves::forward(row),
+            Way::Back => row::moves::back(row),
+        }
     }
 }
 
-// Row k of table memory, or of a page.
+// Row k of table memory, or of a page: these three take the memory and a number of rows, as `each_row` does, since what is behind the rows stays.
 fn go_at(table: &mut [u8], way: Way, k: usize)
     requires { k * row_size + row_size ≤ length table.old }
     ensures { table.new ≡ with_row k (along way (row k table.old)) table.old }
 {
     let from = k * row::ROW_SIZE;
     let to = from + row::ROW_SIZE;
-    go(&mut table[from..to], way);
+    way.go(&mut table[from..to]);
 }
 
 // Each of the first rows of table memory, or of a page.

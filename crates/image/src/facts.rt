@@ -1,4 +1,5 @@
-// What is saved beside the rows: its rules, and the body of block 0 that holds it.
+// What is saved beside the rows: its rules, and the body of block 0 that holds it. What writes takes the whole output and a place in it, here and in the
+// blocks, and no slice of it: a clause says of every byte of the output what it is, which a slice would have to be laid back into.
 ghost use Rattle.std.specs.Prelude.{◌≡◌, ◌+◌, ◌≤◌, length};
 ghost use Rattle.field.specs.Bytes.{overlay};
 ghost use Rattle.block.specs.Block.{block_size, body_size};
@@ -24,9 +25,8 @@ fn board_keeps(b: Board) -> bool
 fn is_fresh(h: Header) -> bool
     ensures { result ≡ is_fresh h }
 {
-    let session = h.session;
     let b = h.board;
-    text::only(&session, 0, 10, b' ')
+    text::only(&h.session, 0, 10, b' ')
         & ((h.next == 1) & ((b.event == 0) & ((b.rows == 0) & (b.live == 0))))
 }
 
@@ -37,19 +37,12 @@ pub fn keep(h: Header) -> bool
     board_keeps(b) & (h.known | is_fresh(h))
 }
 
-fn flag(b: bool) -> u8
-    ensures { result ≡ flag b }
-{
-    if b { 1 } else { 0 }
-}
-
 fn put_session(out: &mut [u8], at: usize, h: Header)
     requires { at + 11 ≤ length out.old }
     ensures { out.new ≡ overlay out.old at (session_bytes h) }
 {
-    let session = h.session;
-    field::copy(&session, 0, 10, out, at);
-    field::write::<u8>(out, at + 10, flag(h.known));
+    field::put::<10>(out, at, &h.session);
+    field::write::<u8>(out, at + 10, u8::from(h.known));
 }
 
 fn put_board(out: &mut [u8], at: usize, b: Board)
@@ -72,25 +65,20 @@ pub fn put(out: &mut [u8], at: usize, h: Header)
     field::fill(out, at + FACTS_SIZE, block::BODY_SIZE - FACTS_SIZE, 0);
 }
 
-// What block 0 says.
+// What block 0 says. An image is a slice of many blocks, so that the first is there by a premise, here and in the next two.
 pub fn read(image: &[u8]) -> Header
     requires { block_size ≤ length image.now }
     ensures { result ≡ header_of image.now }
 {
-    let mut session = [0u8; 10];
-    field::copy(image, 14, 10, &mut session, 0);
-    let known = field::read::<u8>(image, 24) == 1;
-    let first = block::read_head(image, 0);
-    let board = Board {
-        rows: field::read::<u16>(image, 26) as usize,
-        event: field::read::<u8>(image, 25),
-        live: field::read::<u64>(image, 28),
-    };
     Header {
-        session,
-        known,
-        next: first.next,
-        board,
+        session: field::bytes::<10>(image, 14),
+        known: field::read::<u8>(image, 24) == 1,
+        next: block::read_head(image, 0).next,
+        board: Board {
+            rows: field::read::<u16>(image, 26) as usize,
+            event: field::read::<u8>(image, 25),
+            live: field::read::<u64>(image, 28),
+        },
     }
 }
 
@@ -98,8 +86,7 @@ pub fn version(image: &[u8]) -> u16
     requires { block_size ≤ length image.now }
     ensures { result ≡ version_of image.now }
 {
-    let first = block::read_head(image, 0);
-    first.version
+    block::read_head(image, 0).version
 }
 
 // Is the byte for "known" 0 or 1, and are there zeros behind the live number?

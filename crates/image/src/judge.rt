@@ -4,7 +4,8 @@ ghost use Rattle.block.specs.Block.{block_size};
 ghost use Rattle.image.specs.Shape.{most_blocks, welcome};
 ghost use Rattle.image.specs.Restore.{length_keeps, checks_keep, version_of, head_keeps, heads_keep, slots_keep, contents_keep, verdict_in};
 
-use crate::{Header, Refusal, Wanted, facts, pages, rows};
+use crate::rows::Pages;
+use crate::{Header, Refusal, Wanted, facts, pages};
 use field::{limits, text};
 
 fn length_keeps(image: &[u8]) -> bool
@@ -26,66 +27,97 @@ fn checks_keep(image: &[u8], count: usize) -> bool
     true
 }
 
-fn welcomes(wanted: Wanted, version: u16) -> bool
-    ensures { result ≡ welcome wanted version }
-{
-    match wanted {
-        Wanted::Any => true,
-        Wanted::Older => version != row::rules::NEWEST,
-        Wanted::Newest => version == row::rules::NEWEST,
-    }
-}
-
-fn head_keeps(image: &[u8], count: usize, h: Header, version: u16, k: usize) -> bool
-    requires { (version ≡ version_of image.now) × (count * block_size ≤ length image.now) × (count ≤ most_blocks) × (k < count) }
-    ensures { result ≡ head_keeps image.now count h k }
-{
-    let there = block::read_head(image, k * block::BLOCK_SIZE);
-    block::same_head(there, pages::head_for(count, version, h.next, k))
-}
-
-fn heads_keep(image: &[u8], count: usize, h: Header, version: u16) -> bool
-    requires { (version ≡ version_of image.now) × (count * block_size ≤ length image.now) × (count ≤ most_blocks) }
-    ensures { result ≡ heads_keep image.now count h }
-{
-    let fit = limits::number_in_range(h.next) & pages::version_fits(version, h.board.rows);
-    if !fit {
-        return false;
-    }
-    for k in 0..count {
-        if !head_keeps(image, count, h, version, k) {
-            return false;
+impl Wanted {
+    fn welcomes(self, version: u16) -> bool
+        ensures { result ≡ welcome self version }
+    {
+        match self {
+            Wanted::Any => true,
+            Wanted::Older => version != row::rules::NEWEST,
+            Wanted::Newest => version == row::rules::NEWEST,
         }
     }
-    true
 }
 
-fn slots_keep(image: &[u8], count: usize, version: u16, rows: usize) -> bool
-    requires { (version ≡ version_of image.now) × (count * block_size ≤ length image.now) × (1 ≤ count) × (count ≤ most_blocks) × (rows ≤ 65_535) }
-    ensures { result ≡ slots_keep image.now count rows }
-{
-    if pages::blocks_for(rows) != count {
-        return false;
-    }
-    if !rows::keep(image, pages::FIRST_PAGE, block::BLOCK_SIZE, version, rows) {
-        return false;
-    }
-    // The slots that no row takes end where the last block's check begins.
-    let spare = (count - 1) * block::BODY_SIZE - rows * row::ROW_SIZE;
-    text::only(image, count * block::BLOCK_SIZE - 2 - spare, spare, 0)
+// An image of so many whole blocks, with the header and the version that block 0 says.
+#[derive(Clone, Copy)]
+struct Blocks<'a> {
+    image: &'a [u8],
+    count: usize,
+    header: Header,
+    version: u16,
+    ghost there: { count * block_size ≤ length image.now },
+    ghost least: { 1 ≤ count },
+    ghost few: { count ≤ most_blocks },
+    ghost version_is: { version ≡ version_of image.now },
+    ghost rows_small: { header.board.rows ≤ 65_535 },
 }
 
-fn contents_keep(image: &[u8], count: usize, h: Header, version: u16) -> bool
-    requires { (version ≡ version_of image.now) × (count * block_size ≤ length image.now) × (1 ≤ count) × (count ≤ most_blocks) × (h.board.rows ≤ 65_535) }
-    ensures { result ≡ contents_keep image.now count h }
-{
-    if !facts::only_facts(image) {
-        return false;
+impl Blocks<'_> {
+    fn head_keeps(&self, k: usize) -> bool
+        requires { k < self.now.count }
+        ensures { result ≡ head_keeps self.now.image.now self.now.count self.now.header k }
+    {
+        let there = block::read_head(self.image, k * block::BLOCK_SIZE);
+        block::same_head(
+            there,
+            pages::head_for(self.count, self.version, self.header.next, k),
+        )
     }
-    if !facts::keep(h) {
-        return false;
+
+    fn heads_keep(&self) -> bool
+        ensures { result ≡ heads_keep self.now.image.now self.now.count self.now.header }
+    {
+        let h = self.header;
+        let fit = limits::number_in_range(h.next) & pages::version_fits(self.version, h.board.rows);
+        if !fit {
+            return false;
+        }
+        for k in 0..self.count {
+            if !self.head_keeps(k) {
+                return false;
+            }
+        }
+        true
     }
-    slots_keep(image, count, version, h.board.rows)
+
+    fn slots_keep(&self) -> bool
+        ensures { result ≡ slots_keep self.now.image.now self.now.count self.now.header.board.rows }
+    {
+        let rows = self.header.board.rows;
+        if pages::blocks_for(rows) != self.count {
+            return false;
+        }
+        let slots = Pages {
+            bytes: self.image,
+            base: pages::FIRST_PAGE,
+            stride: block::BLOCK_SIZE,
+            rows,
+        };
+        if !slots.keep(self.version) {
+            return false;
+        }
+        // The slots that no row takes end where the last block's check begins.
+        let spare = (self.count - 1) * block::BODY_SIZE - rows * row::ROW_SIZE;
+        text::only(
+            self.image,
+            self.count * block::BLOCK_SIZE - 2 - spare,
+            spare,
+            0,
+        )
+    }
+
+    fn contents_keep(&self) -> bool
+        ensures { result ≡ contents_keep self.now.image.now self.now.count self.now.header }
+    {
+        if !facts::only_facts(self.image) {
+            return false;
+        }
+        if !facts::keep(self.header) {
+            return false;
+        }
+        self.slots_keep()
+    }
 }
 
 pub fn judge(image: &[u8], wanted: Wanted) -> Result<(), Refusal>
@@ -98,13 +130,17 @@ pub fn judge(image: &[u8], wanted: Wanted) -> Result<(), Refusal>
     if !checks_keep(image, count) {
         return Err(Refusal::BadCheck);
     }
-    let h = facts::read(image);
-    let version = facts::version(image);
-    let fit = heads_keep(image, count, h, version) & welcomes(wanted, version);
+    let blocks = Blocks {
+        image,
+        count,
+        header: facts::read(image),
+        version: facts::version(image),
+    };
+    let fit = blocks.heads_keep() & wanted.welcomes(blocks.version);
     if !fit {
         return Err(Refusal::BadHead);
     }
-    if !contents_keep(image, count, h, version) {
+    if !blocks.contents_keep() {
         return Err(Refusal::BadContents);
     }
     Ok(())

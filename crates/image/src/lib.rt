@@ -7,6 +7,8 @@ ghost use Rattle.image.specs.Save.{refusal_number, saving, save_of};
 ghost use Rattle.std.specs.Prelude.{Err};
 ghost use Rattle.image.specs.Restore.{restoring, restored, restore_of};
 
+use crate::pages::Source;
+use crate::rows::Pages;
 use table::Board;
 
 mod each_row;
@@ -22,7 +24,8 @@ pub const PAGE_ROWS: usize = 4;
 
 pub const MOST_BLOCKS: usize = 1 + table::MOST_ROWS / PAGE_ROWS;
 
-// What is saved beside the rows.
+// What is saved beside the rows. The ten bytes and the flag, and no Option of a session: the bytes are written where it is unknown too
+// (`session_bytes`).
 #[derive(Clone, Copy)]
 pub struct Header {
     // Ten spaces while no session is known.
@@ -56,29 +59,33 @@ pub enum Wanted {
     Newest,
 }
 
-// An image is moved to version 3, or back to the one that its rows had before.
+// An image is moved to version 3, or back to the one that its rows had before. A value that is handed down, and no closure: the clauses name the
+// definition of what it does to a row (`along way`), which a closure's own postcondition would only hide.
 #[derive(Clone, Copy)]
 pub enum Way {
     Forward,
     Back,
 }
 
+// Verdict and header, and no Result of a header: a refusal too gives a header, that of a fresh reader (`restore_of`, theorem `Verdicts.refused-leaves`).
 #[derive(Clone, Copy)]
 pub struct Restored {
     pub verdict: Result<(), Refusal>,
     pub header: Header,
 }
 
-pub fn refusal_number(r: Refusal) -> u8
-    ensures { result ≡ refusal_number r }
-{
-    match r {
-        Refusal::Unfit => 20,
-        Refusal::BadLength => 21,
-        Refusal::BadCheck => 22,
-        Refusal::BadHead => 23,
-        Refusal::BadContents => 24,
-        Refusal::ShortOutput => 25,
+impl From<Refusal> for u8 {
+    ghost from_gives = { λ r n. n ≡ refusal_number r };
+
+    fn from(r: Refusal) -> u8 {
+        match r {
+            Refusal::Unfit => 20,
+            Refusal::BadLength => 21,
+            Refusal::BadCheck => 22,
+            Refusal::BadHead => 23,
+            Refusal::BadContents => 24,
+            Refusal::ShortOutput => 25,
+        }
     }
 }
 
@@ -108,7 +115,13 @@ pub fn save(h: Header, table: &[u8], out: &mut [u8]) -> Result<usize, Refusal>
         return Err(Refusal::Unfit);
     }
     let rows = h.board.rows;
-    let kept = facts::keep(h) & rows::keep(table, 0, block::BODY_SIZE, row::rules::NEWEST, rows);
+    let slots = Pages {
+        bytes: table,
+        base: 0,
+        stride: block::BODY_SIZE,
+        rows,
+    };
+    let kept = facts::keep(h) & slots.keep(row::rules::NEWEST);
     if !kept {
         return Err(Refusal::BadContents);
     }
@@ -117,7 +130,12 @@ pub fn save(h: Header, table: &[u8], out: &mut [u8]) -> Result<usize, Refusal>
     if out.len() < size {
         return Err(Refusal::ShortOutput);
     }
-    pages::put_blocks(out, h, table, count);
+    let source = Source {
+        table,
+        header: h,
+        count,
+    };
+    source.put_blocks(out);
     Ok(size)
 }
 

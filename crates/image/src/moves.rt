@@ -11,7 +11,8 @@ ghost use Rattle.image.specs.Restore.{rows_of, verdict_of};
 ghost use Rattle.image.specs.Moves.{used_in, wanted_by, version_after, along, move_of, known_in, lost_of};
 ghost use Rattle.image.specs.declared.Way.TheVariants.{Forward, Back};
 
-use crate::{Header, Refusal, Wanted, Way, each_row, facts, judge, pages, rows};
+use crate::rows::Pages;
+use crate::{Header, Refusal, Wanted, Way, each_row, facts, judge, pages};
 use row::rules;
 
 // So many rows stand in page k.
@@ -26,96 +27,109 @@ fn used_in(rows: usize, k: usize) -> usize
     left
 }
 
-// Page k of an image, moved.
-fn put_page(image: &[u8], out: &mut [u8], at: usize, way: Way, rows: usize, k: usize)
-    requires { (verdict_of image.now ≡ Ok tt) × (rows ≡ (header_of image.now).board.rows) × (at + body_size ≤ length out.old) × (k < pages_for rows) }
-    ensures { out.new ≡ overlay out.old at (page_of rows (each_row (along way) rows (rows_of image.now)) k) }
-{
-    field::copy(
-        image,
-        pages::FIRST_PAGE + k * block::BLOCK_SIZE,
-        block::BODY_SIZE,
-        out,
-        at,
-    );
-    let used = used_in(rows, k);
-    let to = at + block::BODY_SIZE;
-    each_row::all(&mut out[at..to], way, used);
-}
-
-fn put_body(image: &[u8], out: &mut [u8], at: usize, h: Header, way: Way, k: usize)
-    requires { (verdict_of image.now ≡ Ok tt) × (h ≡ header_of image.now) × (at + body_size ≤ length out.old) × (k < blocks_for h.board.rows) }
-    ensures { out.new ≡ overlay out.old at (body_of h (each_row (along way) h.board.rows (rows_of image.now)) k) }
-{
-    if k == 0 {
-        facts::put(out, at, h);
-    } else {
-        put_page(image, out, at, way, h.board.rows, k - 1);
-    }
-}
-
-fn put_block(
-    image: &[u8],
-    out: &mut [u8],
-    h: Header,
-    version: u16,
-    way: Way,
+// An accepted image on its way, with its header, so many blocks and the version that it gets.
+#[derive(Clone, Copy)]
+struct Moving<'a> {
+    image: &'a [u8],
+    header: Header,
     count: usize,
-    k: usize,
-)
-    requires { (verdict_of image.now ≡ Ok tt) × (h ≡ header_of image.now) × (count ≡ blocks_for h.board.rows) × (k < count) × (k * block_size + block_size ≤ length out.old) }
-    ensures { out.new ≡ overlay out.old (k * block_size) (saved_block version h (each_row (along way) h.board.rows (rows_of image.now)) k) }
-{
-    let at = k * block::BLOCK_SIZE;
-    block::put_head(out, at, pages::head_for(count, version, h.next, k));
-    put_body(image, out, at + block::HEAD_SIZE, h, way, k);
-    block::put_check(out, at);
+    way: Way,
+    version: u16,
+    ghost judged: { verdict_of image.now ≡ Ok tt },
+    ghost header_is: { header ≡ header_of image.now },
+    ghost count_is: { count ≡ blocks_for header.board.rows },
 }
 
-fn put_blocks(image: &[u8], out: &mut [u8], h: Header, version: u16, way: Way, count: usize)
-    requires { (verdict_of image.now ≡ Ok tt) × (h ≡ header_of image.now) × (count ≡ blocks_for h.board.rows) × (count * block_size ≤ length out.old) }
-    ensures { out.new ≡ overlay out.old 0 (image_in version h (each_row (along way) h.board.rows (rows_of image.now))) }
-{
-    for k in 0..count {
-        put_block(image, out, h, version, way, count, k);
+impl Moving<'_> {
+    ghost use Rattle.image.specs.Held.{moved_in};
+
+    // Page k, moved.
+    fn put_page(&self, out: &mut [u8], at: usize, k: usize)
+        requires { (at + body_size ≤ length out.old) × (k < pages_for self.now.header.board.rows) }
+        ensures { out.new ≡ overlay out.old at (page_of self.now.header.board.rows (moved_in self.now) k) }
+    {
+        field::copy(
+            self.image,
+            pages::FIRST_PAGE + k * block::BLOCK_SIZE,
+            block::BODY_SIZE,
+            out,
+            at,
+        );
+        let used = used_in(self.header.board.rows, k);
+        let to = at + block::BODY_SIZE;
+        each_row::all(&mut out[at..to], self.way, used);
+    }
+
+    fn put_body(&self, out: &mut [u8], at: usize, k: usize)
+        requires { (at + body_size ≤ length out.old) × (k < self.now.count) }
+        ensures { out.new ≡ overlay out.old at (body_of self.now.header (moved_in self.now) k) }
+    {
+        if k == 0 {
+            facts::put(out, at, self.header);
+        } else {
+            self.put_page(out, at, k - 1);
+        }
+    }
+
+    fn put_block(&self, out: &mut [u8], k: usize)
+        requires { (k < self.now.count) × (k * block_size + block_size ≤ length out.old) }
+        ensures { out.new ≡ overlay out.old (k * block_size) (saved_block self.now.version self.now.header (moved_in self.now) k) }
+    {
+        let at = k * block::BLOCK_SIZE;
+        let head = pages::head_for(self.count, self.version, self.header.next, k);
+        block::put_head(out, at, head);
+        self.put_body(out, at + block::HEAD_SIZE, k);
+        block::put_check(out, at);
+    }
+
+    fn put_blocks(&self, out: &mut [u8])
+        requires { self.now.count * block_size ≤ length out.old }
+        ensures { out.new ≡ overlay out.old 0 (image_in self.now.version self.now.header (moved_in self.now)) }
+    {
+        for k in 0..self.count {
+            self.put_block(out, k);
+        }
     }
 }
 
-fn wanted_by(way: Way) -> Wanted
-    ensures { result ≡ wanted_by way }
-{
-    match way {
-        Way::Forward => Wanted::Older,
-        Way::Back => Wanted::Newest,
+// The rules of a move by its way: two fixed answers each, and no `From`, since neither is another spelling of the way.
+impl Way {
+    fn wanted(self) -> Wanted
+        ensures { result ≡ wanted_by self }
+    {
+        match self {
+            Way::Forward => Wanted::Older,
+            Way::Back => Wanted::Newest,
+        }
     }
-}
 
-fn version_after(way: Way, rows: usize) -> u16
-    ensures { result ≡ version_after way rows }
-{
-    match way {
-        Way::Forward => rules::NEWEST,
-        Way::Back => pages::old_version(rows),
+    fn version_after(self, rows: usize) -> u16
+        ensures { result ≡ version_after self rows }
+    {
+        match self {
+            Way::Forward => rules::NEWEST,
+            Way::Back => pages::old_version(rows),
+        }
     }
 }
 
 fn move_image(image: &[u8], out: &mut [u8], way: Way) -> Result<usize, Refusal>
     ensures { saving result out.new ≡ move_of way image.now out.old }
 {
-    judge::judge(image, wanted_by(way))?;
+    judge::judge(image, way.wanted())?;
     let size = image.len();
     if out.len() < size {
         return Err(Refusal::ShortOutput);
     }
-    let h = facts::read(image);
-    put_blocks(
+    let header = facts::read(image);
+    let moving = Moving {
         image,
-        out,
-        h,
-        version_after(way, h.board.rows),
+        header,
+        count: size / block::BLOCK_SIZE,
         way,
-        size / block::BLOCK_SIZE,
-    );
+        version: way.version_after(header.board.rows),
+    };
+    moving.put_blocks(out);
     Ok(size)
 }
 
@@ -138,23 +152,27 @@ fn known_in(image: &[u8], used: usize) -> usize
     requires { (verdict_of image.now ≡ Ok tt) × (used ≡ (header_of image.now).board.rows) }
     ensures { result ≡ known_in used (rows_of image.now) }
 {
+    let slots = Pages {
+        bytes: image,
+        base: pages::FIRST_PAGE,
+        stride: block::BLOCK_SIZE,
+        rows: used,
+    };
     let mut total = 0;
     for k in 0..used {
-        let at = rows::place(pages::FIRST_PAGE, block::BLOCK_SIZE, k);
-        let to = at + row::ROW_SIZE;
-        total += row::moves::known_times(&image[at..to]);
+        total += row::moves::known_times(slots.row(k));
     }
     total
 }
 
-// How many times a move back of the image loses: 0 where it is refused.
+// How many times a move back of the image loses. A move that is refused loses none (`lost_of`), so that this can't fail, and gives no Result.
 pub fn lost(image: &[u8]) -> usize
     ensures { result ≡ lost_of image.now }
 {
     match judge::judge(image, Wanted::Newest) {
         Ok(()) => {
-            let h = facts::read(image);
-            known_in(image, h.board.rows)
+            let header = facts::read(image);
+            known_in(image, header.board.rows)
         }
         Err(_) => 0,
     }

@@ -7,7 +7,7 @@ ghost use Rattle.image.specs.Shape.{pages_for, blocks_for, most_blocks, old_vers
 ghost use Rattle.image.specs.Save.{page_of, body_of, saved_block, image_of};
 ghost use Rattle.row.specs.Rules.{newest};
 
-use crate::Header;
+use crate::{Header, facts};
 use block::Head;
 use row::rules;
 
@@ -51,52 +51,66 @@ pub fn head_for(count: usize, version: u16, next: u64, k: usize) -> Head
     }
 }
 
-// Page k of the table: its rows in use, and zeros.
-fn put_page(out: &mut [u8], at: usize, table: &[u8], rows: usize, k: usize)
-    requires { (at + body_size ≤ length out.old) × (length table.now ≡ table_size) × (rows ≤ most_rows) × (k < pages_for rows) }
-    ensures { out.new ≡ overlay out.old at (page_of rows table.now k) }
-{
-    let from = k * block::BODY_SIZE;
-    let left = rows * row::ROW_SIZE - from;
-    if left < block::BODY_SIZE {
-        field::copy(table, from, left, out, at);
-        field::fill(out, at + left, block::BODY_SIZE - left, 0);
-    } else {
-        field::copy(table, from, block::BODY_SIZE, out, at);
+// What is saved: a table, the rows in use with what stands beside them, and so many blocks.
+#[derive(Clone, Copy)]
+pub struct Source<'a> {
+    pub table: &'a [u8],
+    pub header: Header,
+    pub count: usize,
+    pub ghost sized: { length table.now ≡ table_size },
+    pub ghost few: { header.board.rows ≤ most_rows },
+    pub ghost count_is: { count ≡ blocks_for header.board.rows },
+}
+
+impl Source<'_> {
+    // Page k of the table: its rows in use, and zeros.
+    fn put_page(&self, out: &mut [u8], at: usize, k: usize)
+        requires { (at + body_size ≤ length out.old) × (k < pages_for self.now.header.board.rows) }
+        ensures { out.new ≡ overlay out.old at (page_of self.now.header.board.rows self.now.table.now k) }
+    {
+        let from = k * block::BODY_SIZE;
+        let left = self.header.board.rows * row::ROW_SIZE - from;
+        if left < block::BODY_SIZE {
+            field::copy(self.table, from, left, out, at);
+            field::fill(out, at + left, block::BODY_SIZE - left, 0);
+        } else {
+            field::copy(self.table, from, block::BODY_SIZE, out, at);
+        }
+    }
+
+    fn put_body(&self, out: &mut [u8], at: usize, k: usize)
+        requires { (at + body_size ≤ length out.old) × (k < self.now.count) }
+        ensures { out.new ≡ overlay out.old at (body_of self.now.header self.now.table.now k) }
+    {
+        if k == 0 {
+            facts::put(out, at, self.header);
+        } else {
+            self.put_page(out, at, k - 1);
+        }
+    }
+
+    fn put_block(&self, out: &mut [u8], k: usize)
+        requires { (k * block_size + block_size ≤ length out.old) × (k < self.now.count) }
+        ensures { out.new ≡ overlay out.old (k * block_size) (saved_block newest self.now.header self.now.table.now k) }
+    {
+        let at = k * block::BLOCK_SIZE;
+        let head = head_for(self.count, rules::NEWEST, self.header.next, k);
+        block::put_head(out, at, head);
+        self.put_body(out, at + block::HEAD_SIZE, k);
+        block::put_check(out, at);
+    }
+
+    pub fn put_blocks(&self, out: &mut [u8])
+        requires { self.now.count * block_size ≤ length out.old }
+        ensures { out.new ≡ overlay out.old 0 (image_of self.now.header self.now.table.now) }
+    {
+        for k in 0..self.count {
+            self.put_block(out, k);
+        }
     }
 }
 
-fn put_body(out: &mut [u8], at: usize, h: Header, table: &[u8], k: usize)
-    requires { (at + body_size ≤ length out.old) × (length table.now ≡ table_size) × (h.board.rows ≤ most_rows) × (k < blocks_for h.board.rows) }
-    ensures { out.new ≡ overlay out.old at (body_of h table.now k) }
-{
-    if k == 0 {
-        crate::facts::put(out, at, h);
-    } else {
-        put_page(out, at, table, h.board.rows, k - 1);
-    }
-}
-
-fn put_block(out: &mut [u8], h: Header, table: &[u8], count: usize, k: usize)
-    requires { (k * block_size + block_size ≤ length out.old) × (length table.now ≡ table_size) × (h.board.rows ≤ most_rows) × (count ≡ blocks_for h.board.rows) × (k < count) }
-    ensures { out.new ≡ overlay out.old (k * block_size) (saved_block newest h table.now k) }
-{
-    let at = k * block::BLOCK_SIZE;
-    block::put_head(out, at, head_for(count, rules::NEWEST, h.next, k));
-    put_body(out, at + block::HEAD_SIZE, h, table, k);
-    block::put_check(out, at);
-}
-
-pub fn put_blocks(out: &mut [u8], h: Header, table: &[u8], count: usize)
-    requires { (count * block_size ≤ length out.old) × (length table.now ≡ table_size) × (h.board.rows ≤ most_rows) × (count ≡ blocks_for h.board.rows) }
-    ensures { out.new ≡ overlay out.old 0 (image_of h table.now) }
-{
-    for k in 0..count {
-        put_block(out, h, table, count, k);
-    }
-}
-
-// The n pages of an image to table memory, with zeros past them.
+// The n pages of an image (they are so many, of memory that is longer) to table memory, with zeros past them.
 pub fn take(image: &[u8], table: &mut [u8], n: usize)
     requires { (n * block_size + block_size ≤ length image.now) × (length table.old ≡ table_size) × (n < most_blocks) }
     ensures { table.new ≡ pages image.now first_page block_size n ++ replicate (table_size - n * body_size) 0 }

@@ -122,7 +122,7 @@ fn saved_number(saved: Result<usize, image::Refusal>) -> u32
 {
     match saved {
         Ok(n) => n as u32 * 256,
-        Err(r) => image::refusal_number(r) as u32,
+        Err(r) => u8::from(r) as u32,
     }
 }
 
@@ -155,7 +155,7 @@ fn verdict_number(verdict: Result<(), image::Refusal>) -> u32
 {
     match verdict {
         Ok(()) => 0,
-        Err(r) => image::refusal_number(r) as u32,
+        Err(r) => u8::from(r) as u32,
     }
 }
 

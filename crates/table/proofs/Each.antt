@@ -82,6 +82,3 @@ each_none f mem = refl
 pub each_turn : (f : List ℕ → List ℕ) (mem : List ℕ) (k : ℕ) {a z : List ℕ} → a ≡ each_row f k mem → z ≡ with_row k (f (row k a)) a → z ≡ each_row f (k + 1) mem
 unfolding each_row
 each_turn f mem k e g = g ∙ rw (e, add-one)
-
-pub each-end : (f : List ℕ → List ℕ) (mem : List ℕ) (k rows : ℕ) {z : List ℕ} → k ≤ rows → rows ≤ k → z ≡ each_row f k mem → z ≡ each_row f rows mem
-each-end f mem k rows h g e = let d : k ≡ rows = omega arith in e ∙ rw d

@@ -15,7 +15,7 @@ use Rattle.message.specs.Letters.{listed, anything, conditions, LongNumbers, Sho
 use Rattle.message.specs.Message.{keeps, Typed}
 use Rattle.message.specs.declared.Message.{Message}
 use Rattle.message.specs.declared.Message.TheVariants as message
-use Rattle.std.specs.Prelude.{Option}
+use Rattle.std.specs.Prelude.{Option, Ok}
 use Rattle.std.specs.declared.option.Option.TheVariants as short
 use Rattle.message.specs.declared.Side.{Side}
 use Rattle.message.specs.declared.Side.TheVariants.{Bid, Ask}
@@ -40,7 +40,6 @@ use Rattle.table.proofs.Search.{Has}
 use Rattle.table.proofs.IndexPlaces.{here-has}
 use Rattle.table.proofs.Rows.{row-length, row-own}
 use Rattle.table.proofs.Exactly.{none, by-outcome}
-use Rattle.std.specs.Prelude.{Ok}
 
 -- ---- a quote that keeps its field rules
 

@@ -37,9 +37,7 @@ use Rattle.table.proofs.IndexPlaces.{here-has}
 use Rattle.table.proofs.IndexTruth.{same-as-walk, sought-never-astray}
 use Rattle.table.proofs.IndexKept.{clear-sorted, add-sorted, change-sorted}
 use Rattle.table.proofs.Exactly.{none, either_way, LeftBy, apply-leaves}
-use Rattle.std.specs.Prelude.{Err}
-use Rattle.std.specs.Prelude.{Ok}
-use Rattle.std.specs.Prelude.{Result}
+use Rattle.std.specs.Prelude.{Err, Ok, Result}
 use Rattle.table.specs.declared.Refusal.{Refusal}
 
 -- ---- THE ANSWER EQUALS THE OLD WALK'S

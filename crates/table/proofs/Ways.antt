@@ -79,9 +79,6 @@ module _ (mem ix : List ℕ) {w : Bool} (told : w ≡ is_lent (memories mem ix))
   start-long : not w ≡ false → length mem ≡ table_size
   start-long y = eqb-true (length mem) table_size (both_left (is_table mem) (is_index ix) (sym told ∙ not-false w y))
 
-  pub start-room : not w ≡ false → 0 + table_size ≤ length mem
-  start-room y = omega (arith, start-long y)
-
   module _ {f : Board} {a : Applied} (fresh : f ≡ fresh_board) where
     pub start-unfit : not w ≡ true → a ≡ denied Unfit f → beside ix (outcome a mem) ≡ start_of (memories mem ix)
     unfolding start_of

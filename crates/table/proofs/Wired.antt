@@ -40,9 +40,7 @@ use Rattle.table.specs.declared.Refusal.TheVariants.{Unfit, NoRow, NoQuotes, Fix
 use Rattle.table.specs.declared.wire.Placed.{Placed}
 use Rattle.table.specs.declared.wire.Placed.TheVariants as placing
 use Rattle.table.proofs.Ways.{lent_row, back, row-lent, row_back}
-use Rattle.std.specs.Prelude.{Err}
-use Rattle.std.specs.Prelude.{Ok}
-use Rattle.std.specs.Prelude.{Result}
+use Rattle.std.specs.Prelude.{Err, Ok, Result}
 use Rattle.message.specs.declared.Refusal as message_refusal
 
 infixr 5 ◌also◌

@@ -4,7 +4,7 @@
 ghost use Rattle.std.specs.Prelude.{◌≡◌};
 ghost use Rattle.table.specs.Memory.{is_table, rows_fit, memories};
 ghost use Rattle.table.specs.Index.{is_lent};
-ghost use Rattle.table.specs.Board.{refusal_number, number_in, fresh_board, taken, denied, outcome, beside, start_of};
+ghost use Rattle.table.specs.Board.{refusal_number, fresh_board, taken, denied, outcome, beside, start_of};
 
 pub mod index;
 pub mod wire;
@@ -13,7 +13,8 @@ pub const MOST_ROWS: usize = 500;
 
 pub const TABLE_SIZE: usize = MOST_ROWS * row::ROW_SIZE;
 
-// What is kept beside the rows.
+// What is kept beside the rows. Event and live number are 0 before any, and no Option, as handle and image hold them in bytes (handle `head_bytes`,
+// image `board_bytes`).
 #[derive(Clone, Copy)]
 pub struct Board {
     // Rows in use.
@@ -38,6 +39,8 @@ pub enum Refusal {
     TableFull,
 }
 
+// Board and verdict, and no Result of a board: a refusal too leaves a board, the fresh one on starting (`start_of`) and that of before a message
+// (theorem `Exactly.refused-leaves`).
 #[derive(Clone, Copy)]
 pub struct Applied {
     pub board: Board,
@@ -55,15 +58,6 @@ impl From<Refusal> for u8 {
             Refusal::FixedField => 15,
             Refusal::TableFull => 16,
         }
-    }
-}
-
-pub fn number_of(v: Result<(), Refusal>) -> u8
-    ensures { result ≡ number_in v }
-{
-    match v {
-        Ok(()) => 0,
-        Err(r) => u8::from(r),
     }
 }
 

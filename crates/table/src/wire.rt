@@ -15,7 +15,7 @@ ghost use Rattle.table.specs.declared.Board.{Board};
 use crate::index::Sought;
 use crate::{Refusal, index};
 
-// What came of a message: the rows in use stay, or there is one more; or it is refused.
+// What came of a message: the rows in use stay, or there is one more; or it is refused. Three answers with names of their own, so no Result.
 #[derive(Clone, Copy)]
 pub enum Placed {
     Kept,
@@ -42,7 +42,7 @@ fn add(rows: usize, place: usize, bytes: &[u8], table: &mut [u8], index: &mut [u
     Placed::Added
 }
 
-// A directory for the row's own id.
+// A directory for the row's own id. The row is a slice here, as those of crate row that write it take one.
 fn relist(row: &mut [u8], bytes: &[u8]) -> Placed
     requires { (row_size ≤ length row.old) × (63 ≤ length bytes.now) }
     ensures { AtRow (λ b. directory_at b (directory_in bytes.now) (texts_in bytes.now)) row.old row.new result }

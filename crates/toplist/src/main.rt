@@ -119,7 +119,7 @@ fn save(rt: &HostRuntime, reader: Reader, table: &[u8], path: &[u8]) -> bool {
                 &PROGRAM,
                 path,
                 b": not saved: refused ",
-                image::refusal_number(r),
+                u8::from(r),
             );
             false
         }
@@ -177,7 +177,7 @@ fn restored(
     match verdict {
         Ok(()) => ready(reader),
         Err(r) => {
-            print_refused(rt, path, image::refusal_number(r));
+            print_refused(rt, path, u8::from(r));
             none(reader, REFUSED)
         }
     }

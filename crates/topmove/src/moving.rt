@@ -59,6 +59,6 @@ pub fn move_image(way: Way, image: &[u8], out: &mut [u8]) -> Outcome
 {
     match save(way, image, out) {
         Ok(n) => Outcome::Done(facts(image, &out[..n])),
-        Err(r) => Outcome::Refused(image::refusal_number(r)),
+        Err(r) => Outcome::Refused(u8::from(r)),
     }
 }

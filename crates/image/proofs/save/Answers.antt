@@ -9,8 +9,11 @@ use Rattle.image.proofs.save.Goals as goal
 pub returns-then-not-within_limits : goal.returns-then-not-within_limits
 returns-then-not-within_limits c = search save-unfit
 
+pub invariant_of-slots : goal.invariant_of-slots
+invariant_of-slots c = let l : Fitting c.args.h.board.rows c.args.table.now = search save-limits in record { inside = table-pages c.args.table.now c.args.h.board.rows l }
+
 pub keep-requires-2 : goal.keep-requires-2
-keep-requires-2 c = let l : Fitting c.args.h.board.rows c.args.table.now = search save-limits in (table-pages c.args.table.now c.args.h.board.rows l, l.1)
+keep-requires-2 c = let l : Fitting c.args.h.board.rows c.args.table.now = search save-limits in l.1
 
 pub returns-then-not-kept : goal.returns-then-not-kept
 returns-then-not-kept c = search save-broken depth 14
@@ -24,8 +27,8 @@ overflow_mul-size c = let l : Fitting c.args.h.board.rows c.args.table.now = sea
 pub returns-then-out-size : goal.returns-then-out-size
 returns-then-out-size c = search save-short depth 14
 
-pub put_blocks-requires : goal.put_blocks-requires
-put_blocks-requires c = let l : Fitting c.args.h.board.rows c.args.table.now = search save-limits in (search rules, l.0, l.1, c.blocks_for-count.ensures)
+pub invariant_of-source : goal.invariant_of-source
+invariant_of-source c = let l : Fitting c.args.h.board.rows c.args.table.now = search save-limits in record { sized = l.0; few = l.1; count_is = c.blocks_for-count.ensures }
 
 pub returns : goal.returns
 returns c = search save-whole depth 14

@@ -1,18 +1,10 @@
 -- `image::each_row::all` meets its contract.
-use mathlib.Core.Path.{refl}
-use native.Mathlib.Omega.{arith}
 use borrow.Author.Rules.{rules}
-use Rattle.table.proofs.Each.{each_none, each_turn, each-end}
+use Rattle.table.proofs.Each.{each_none, each_turn}
 use Rattle.image.proofs.each_row.all.Goals as goal
 
 pub loop-k-init : goal.loop-k-init
 loop-k-init c = each_none _ _
 
-pub go_at-requires : goal.go_at-requires
-go_at-requires c = omega arith
-
 pub loop-k-preserved : goal.loop-k-preserved
 loop-k-preserved c = search (each_turn, rules)
-
-pub returns : goal.returns
-returns c = search (each-end, rules)

@@ -1,7 +1,5 @@
 -- `image::each_row::all` meets its contract.
 use mathlib.Core.Path.{◌≡◌}
-use Prim.Native.Nat.{◌≤◌, ◌-◌}
-use lib.ListN.{length}
 use Rattle.table.specs.Memory.{each_row}
 use Rattle.image.specs.Moves.{along}
 use Rattle.image.proofs.each_row.all.Given as goal

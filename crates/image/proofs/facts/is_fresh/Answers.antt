@@ -1,13 +1,9 @@
 -- `image::facts::is_fresh` meets its contract.
 use mathlib.Core.Path.{◌≡◌}
-use native.Mathlib.Omega.{arith}
 use lib.ListN.{length}
 use Rattle.image.proofs.Beside.{is-fresh}
 use borrow.Author.Rules.{rules}
 use Rattle.image.proofs.facts.is_fresh.Goals as goal
-
-pub only-requires : goal.only-requires
-only-requires c = let l : length c.args.h.session ≡ 10 = search rules in omega arith
 
 pub returns : goal.returns
 returns c = let l : length c.args.h.session ≡ 10 = search (rules, c) in is-fresh c.args.h l c.only.ensures

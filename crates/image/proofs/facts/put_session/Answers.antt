@@ -1,13 +1,9 @@
 -- `image::facts::put_session` meets its contract.
-use mathlib.Core.Path.{◌≡◌}
-use native.Mathlib.Omega.{arith}
+use mathlib.Core.Path.{◌≡◌, ◌∙◌}
 use lib.ListN.{length}
-use Rattle.image.proofs.Beside.{session-put}
+use Rattle.image.proofs.Beside.{flag-byte, session-put}
 use borrow.Author.Rules.{rules}
 use Rattle.image.proofs.facts.put_session.Goals as goal
 
-pub copy-requires : goal.copy-requires
-copy-requires c = let l : length c.args.h.session ≡ 10 = search rules in (omega arith, search rules)
-
 pub returns : goal.returns
-returns c = let l : length c.args.h.session ≡ 10 = search (rules, c) in search (session-put, c) depth 14
+returns c = let l : length c.args.h.session ≡ 10 = search (rules, c) in session-put _ _ c.args.h l c.requires c.put.ensures (c.from.ensures ∙ flag-byte c.args.h.known) c.write.ensures

@@ -1,6 +1,5 @@
 -- `image::judge::checks_keep` meets its contract.
-use Rattle.image.proofs.Judged.{checks-none, checks-stop, checks-on, checks-end}
-use borrow.Author.Rules.{rules}
+use Rattle.image.proofs.Judged.{checks-none, checks-stop, checks-on}
 use Rattle.image.proofs.judge.checks_keep.Goals as goal
 
 pub loop-k-init : goal.loop-k-init
@@ -11,6 +10,3 @@ returns-then-not-check_keeps c = search checks-stop
 
 pub loop-k-preserved : goal.loop-k-preserved
 loop-k-preserved c = search checks-on
-
-pub returns : goal.returns
-returns c = search checks-end

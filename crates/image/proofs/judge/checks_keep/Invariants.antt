@@ -1,7 +1,6 @@
 -- `image::judge::checks_keep` meets its contract.
 use mathlib.Core.Path.{◌≡◌}
 use mathlib.Core.Bool.{true}
-use Prim.Native.Nat.{◌≤◌, ◌-◌}
 use Rattle.image.specs.Restore.{checks_keep}
 use Rattle.image.proofs.judge.checks_keep.Given as goal
 

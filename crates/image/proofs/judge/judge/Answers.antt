@@ -9,20 +9,25 @@ returns-then-not-length_keeps c = search judge-length
 pub returns-then-not-checks_keep : goal.returns-then-not-checks_keep
 returns-then-not-checks_keep c = search judge-check
 
-pub read-h-requires : goal.read-h-requires
-read-h-requires c = let j : Long c.args.image.now = search judge-long in j.some
+pub read-requires : goal.read-requires
+read-requires c = let j : Long c.args.image.now = search judge-long in j.some
 
-pub version-version-requires : goal.version-version-requires
-version-version-requires c = let j : Long c.args.image.now = search judge-long in j.some
+pub version-requires : goal.version-requires
+version-requires c = let j : Long c.args.image.now = search judge-long in j.some
 
-pub heads_keep-requires : goal.heads_keep-requires
-heads_keep-requires c = let j : Long c.args.image.now = search judge-long in (c.version-version.ensures, omega arith, j.few)
+pub invariant_of-blocks : goal.invariant_of-blocks
+invariant_of-blocks c =
+    let j : Long c.args.image.now = search judge-long in
+    record {
+      there = omega arith;
+      least = j.least;
+      few = j.few;
+      version_is = c.version.ensures;
+      rows_small = rows-small c.args.image.now c.read.result (λ i. let b = c.type_inv.image i in omega arith) j.some c.read.ensures;
+    }
 
 pub returns-then-not-fit : goal.returns-then-not-fit
 returns-then-not-fit c = search judge-head depth 14
-
-pub contents_keep-requires : goal.contents_keep-requires
-contents_keep-requires c = let j : Long c.args.image.now = search judge-long in (c.version-version.ensures, omega arith, j.least, j.few, rows-small c.args.image.now c.read-h.result (λ i. let b = c.type_inv.image i in omega arith) j.some c.read-h.ensures)
 
 pub returns-then-not-contents_keep : goal.returns-then-not-contents_keep
 returns-then-not-contents_keep c = search judge-contents depth 14

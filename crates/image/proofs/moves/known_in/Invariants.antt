@@ -1,6 +1,6 @@
 -- `image::moves::known_in` meets its contract.
 use mathlib.Core.Path.{◌≡◌}
-use Prim.Native.Nat.{◌-◌, ◌*◌, ◌≤◌}
+use Prim.Native.Nat.{◌*◌, ◌≤◌}
 use Rattle.image.specs.Restore.{rows_of}
 use Rattle.image.specs.Moves.{known_in}
 use Rattle.image.proofs.moves.known_in.Given as goal

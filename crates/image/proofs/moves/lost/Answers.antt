@@ -4,11 +4,11 @@ use Rattle.image.specs.declared.Header.{Header}
 use Rattle.image.proofs.Writes.{lost-taken, lost-long, lost-counted, lost-refused}
 use Rattle.image.proofs.moves.lost.Goals as goal
 
-pub read-h-requires : goal.read-h-requires
-read-h-requires c = search lost-long
+pub read-header-requires : goal.read-header-requires
+read-header-requires c = search lost-long
 
 pub known_in-requires : goal.known_in-requires
-known_in-requires c = (search lost-taken, ap (λ (h : Header). h.board.rows) c.read-h.ensures)
+known_in-requires c = (search lost-taken, ap (λ (h : Header). h.board.rows) c.read-header.ensures)
 
 pub returns-in-Ok : goal.returns-in-Ok
 returns-in-Ok c = search lost-counted

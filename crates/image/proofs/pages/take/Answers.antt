@@ -1,7 +1,5 @@
 -- `image::pages::take` meets its contract.
-use mathlib.Core.Path.{refl}
 use Rattle.image.proofs.Puts.{taken_none, taken-turn, taken-all}
-use borrow.Author.Rules.{rules}
 use Rattle.image.proofs.pages.take.Goals as goal
 
 pub loop-k-init : goal.loop-k-init

@@ -1,7 +1,5 @@
 -- `image::pages::take` meets its contract.
 use mathlib.Core.Path.{◌≡◌}
-use Prim.Native.Nat.{◌≤◌, ◌-◌}
-use lib.ListN.{length}
 use Rattle.field.specs.Bytes.{overlay}
 use Rattle.block.specs.Block.{block_size}
 use Rattle.image.specs.Shape.{pages, first_page}

@@ -14,9 +14,6 @@ returns-then-bytes-ne109 c = record { at_none = search (none-refused, rules); in
 pub returns-then-rows-ge-MOST_ROWS : goal.returns-then-rows-ge-MOST_ROWS
 returns-then-rows-ge-MOST_ROWS c = record { at_none = search (add-full, rules); index_after = refl }
 
-pub slice_bounds-put_new-end : goal.slice_bounds-put_new-end
-slice_bounds-put_new-end c = omega arith
-
 pub put_new-requires : goal.put_new-requires
 put_new-requires c =
     (search rules, directory-room _ c.requires.0 (search rules))

@@ -10,9 +10,6 @@ use Rattle.table.proofs.wire.place.Goals as goal
 pub read-requires : goal.read-requires
 read-requires c = id-room _ (rowed c.requires)
 
-pub find-requires : goal.find-requires
-find-requires c = omega arith
-
 pub overflow_mul-from : goal.overflow_mul-from
 overflow_mul-from c =
     omega (arith, found-fits _ _ _ _ _ c.requires.fitting.0 c.find.ensures c.in-Here.is)
@@ -24,10 +21,6 @@ overflow_add-to c =
 pub slice_bounds-at_row-end : goal.slice_bounds-at_row-end
 slice_bounds-at_row-end c =
     found-fits _ _ _ _ _ c.requires.fitting.0 c.find.ensures c.in-Here.is
-
-pub at_row-requires : goal.at_row-requires
-at_row-requires c =
-    (search rules, rowed c.requires)
 
 pub add-requires : goal.add-requires
 add-requires c =
