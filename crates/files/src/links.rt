@@ -46,6 +46,7 @@ fn follow(path: &mut [u8], n: usize, text: &[u8]) -> Option<usize>
 
 // Puts the file that the first n bytes of `path` lead to at its front, and answers its length, where it has room and the chain has an end.
 // No error is the system's: it says that there was no memory for the text of a link, or that a name is no UTF-8 text. No file is changed.
+// The caller's memory holds both names, one after the other, so the first one's length goes beside it.
 pub fn followed(rt: &HostRuntime, path: &mut [u8], n: usize) -> io::Result<Option<usize>>
     requires { n ≤ length path.old }
     ensures within { IfOk result (λ found. IfSome found (λ m. m ≤ length path.new)) }

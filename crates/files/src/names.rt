@@ -11,7 +11,7 @@ use std::{fs, io};
 // Who may read and write a new file: the one who made it.
 const OWNER_ONLY: u32 = 0o600;
 
-// Each function below is one call by that text, so that none of them takes a closure for it.
+// The functions below differ in the function of std that they call, so one that took it as a closure would be no shorter.
 fn text(name: &[u8]) -> io::Result<&str>
     ensures { IfErr result (λ e. raw_os_error e ≡ None) }
 {

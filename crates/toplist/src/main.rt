@@ -222,7 +222,7 @@ fn conclude(rt: &HostRuntime, wanted: Wanted, heard: Heard, table: &[u8]) -> Res
     Err(Fault::Failed)
 }
 
-// The library takes table and index apart, so they stay so here.
+// The reader takes table and index apart, and `session::read_all` promises of any two memories, so they are no struct.
 fn run(rt: &HostRuntime, wanted: Wanted, table: &mut [u8], index: &mut [u8]) -> Result<(), Fault> {
     let reader = begin(rt, wanted.from, table, index)?;
     let mut input = open_session(rt, wanted.session).ok_or(Fault::Failed)?;
