@@ -2,7 +2,7 @@
 use files::command_line;
 use std::rt::Env;
 
-// What is asked for, and the places of the files' names among the arguments.
+// What is asked for, and the places of the files' names among the arguments. It says on what to run and picks no step, so it is handed on whole.
 #[derive(Clone, Copy, Default)]
 pub struct Wanted {
     pub wrong: bool,

@@ -34,7 +34,7 @@ fn put_start(out: &mut [u8], moved: Moved) -> usize
     put_number(out, end, b", ", moved.rows)
 }
 
-// The rest of the line, from `at` on: only a move back loses times.
+// The rest of the line, from `at` on: only a move back loses times. The promise names the way, so it is a value here and no closure.
 fn put_rest(out: &mut [u8], at: usize, way: Way, lost: u64) -> usize
     requires { at + 40 ≤ length out.old }
     ensures out_after { out.new ≡ overlay out.old at (rest_of way lost) }

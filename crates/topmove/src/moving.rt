@@ -21,7 +21,7 @@ pub struct Moved {
     pub lost: u64,
 }
 
-// The image as the other version has it, to the front of `out`. The promise names the way, so a closure in its place would be no plainer.
+// The image as the other version has it, to the front of `out`. The promise names the way, so it is a value here and no closure.
 fn save(way: Way, image: &[u8], out: &mut [u8]) -> Result<usize, image::Refusal>
     ensures { saving result out.new ≡ move_of way image.now out.old }
 {
