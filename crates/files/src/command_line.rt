@@ -4,29 +4,21 @@ ghost use Rattle.std.specs.Prelude.{◌≤◌, length};
 use std::env::FillError;
 use std::rt::Env;
 
-// The argument at that place, to the front of `space`; answers its length, 0 where there is none or where it has no room.
-pub fn argument(rt: &HostRuntime, place: usize, space: &mut [u8]) -> usize
-    ensures { result ≤ length space.new }
+// The argument at that place, which is put to the front of `space`; nothing where there is none or where it has no room.
+pub fn argument<'a>(rt: &HostRuntime, place: usize, space: &'a mut [u8]) -> &'a [u8]
+    ensures { length result.now ≤ length space.old }
 {
-    match rt.arg(place, space) {
-        Ok(n) => n,
-        Err(_) => 0,
-    }
+    let n = rt.arg(place, space).unwrap_or(0);
+    &space[..n]
 }
 
 fn has(rt: &HostRuntime, place: usize) -> bool {
-    match rt.arg(place, &mut [0u8; 1]) {
-        Err(FillError::NotPresent) => false,
-        _ => true,
-    }
+    !matches!(rt.arg(place, &mut [0u8; 1]), Err(FillError::NotPresent))
 }
 
 // How many there are.
 pub fn count(rt: &HostRuntime) -> usize {
-    for place in 0..usize::MAX {
-        if !has(rt, place) {
-            return place;
-        }
-    }
-    usize::MAX
+    (0..usize::MAX)
+        .find(|place| !has(rt, *place))
+        .unwrap_or(usize::MAX)
 }

@@ -21,10 +21,8 @@ fn begin(rt: &HostRuntime, program: &[u8]) {
 }
 
 fn without_number(text: &str) -> &str {
-    match text.rsplit_once(BEFORE_NUMBER) {
-        Some((words, _)) => words,
-        None => text,
-    }
+    text.rsplit_once(BEFORE_NUMBER)
+        .map_or(text, |(words, _)| words)
 }
 
 // The error in words, without its number.
@@ -33,9 +31,8 @@ fn put_error(rt: &HostRuntime, error: io::Error) {
     let _ = write!(space, "{error}");
     let n = space.position() as usize;
     let text = space.into_inner();
-    match str::from_utf8(&text[..n.min(text.len())]) {
-        Ok(text) => put(rt, without_number(text).as_bytes()),
-        Err(_) => {}
+    if let Ok(text) = str::from_utf8(&text[..n.min(text.len())]) {
+        put(rt, without_number(text).as_bytes());
     }
 }
 

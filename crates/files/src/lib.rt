@@ -26,17 +26,13 @@ const LETTERS: usize = 6;
 
 const MOST_DRAWS: u32 = 238_328;
 
-#[derive(Clone, Copy)]
-pub enum Loaded {
-    Bytes(usize),
-    Failed,
-}
-
 // Reads on until the memory is full, the input is at its end or breaks off; how many bytes came?
 fn read_full(input: &mut Input, space: &mut [u8]) -> usize
     ensures { result ≤ length space.new }
 {
     let mut done = 0;
+
+    // A read may bring less than it has room for, so what is counted is bytes and no turns; `read_exact` would not say how many came.
     while done < space.len() {
         match input.read(&mut space[done..]) {
             Ok(n) if n > 0 => done += n,
@@ -46,37 +42,34 @@ fn read_full(input: &mut Input, space: &mut [u8]) -> usize
     done
 }
 
-// The file's bytes at the start of `space`, as many as it has room for.
+// The file's bytes at the start of `space`, as many as it has room for, and how many they are; nothing where it could not be read, which was said.
 fn read_open(
     rt: &HostRuntime,
     program: &[u8],
     input: &mut Input,
     path: &[u8],
     space: &mut [u8],
-) -> Loaded
+) -> Option<usize>
     ensures { LoadedIn result space.new }
 {
-    let n = match input.read(space) {
-        Ok(n) => n,
+    match input.read(space) {
+        Ok(0) => Some(0),
+        Ok(n) => {
+            let more = read_full(input, &mut space[n..]);
+            Some(n + more)
+        }
         Err(e) => {
             complaints::system(rt, program, path, e);
-            return Loaded::Failed;
+            None
         }
-    };
-    if n == 0 {
-        return Loaded::Bytes(0);
     }
-    let more = read_full(input, &mut space[n..]);
-    Loaded::Bytes(n + more)
 }
 
 // The same by the file's name.
-pub fn load(rt: &HostRuntime, program: &[u8], path: &[u8], space: &mut [u8]) -> Loaded
+pub fn load(rt: &HostRuntime, program: &[u8], path: &[u8], space: &mut [u8]) -> Option<usize>
     ensures { LoadedIn result space.new }
 {
-    let Some(mut input) = open(rt, program, path) else {
-        return Loaded::Failed;
-    };
+    let mut input = open(rt, program, path)?;
     let loaded = read_open(rt, program, &mut input, path, space);
     close(input);
     loaded
@@ -151,7 +144,7 @@ fn replace(rt: &HostRuntime, target: &[u8], name: &mut [u8], bytes: &[u8]) -> io
     put
 }
 
-// The name of the new file: the target's with a dot and six letters more.
+// The name of the new file: the target's with a dot and six letters more. This alone asks for a short name, so it has no type of its own.
 fn store_at(rt: &HostRuntime, target: &[u8], bytes: &[u8]) -> io::Result<()>
     requires { length target.now ≤ 4000 }
 {
@@ -172,22 +165,26 @@ fn try_store(rt: &HostRuntime, program: &[u8], path: &[u8], bytes: &[u8]) -> io:
         return Ok(false);
     }
     target[..n].copy_from_slice(path);
-    let size = links::followed(rt, &mut target, n)?;
-    if size == 0 {
-        complaints::words(rt, program, path, b": leads to no file\n");
-        return Ok(false);
+    match links::followed(rt, &mut target, n)? {
+        // No file has the empty name.
+        None | Some(0) => {
+            complaints::words(rt, program, path, b": leads to no file\n");
+            Ok(false)
+        }
+        Some(size) if size > MOST_NAME => {
+            complaints::words(
+                rt,
+                program,
+                path,
+                b": leads to a file whose name is too long\n",
+            );
+            Ok(false)
+        }
+        Some(size) => {
+            store_at(rt, &target[..size], bytes)?;
+            Ok(true)
+        }
     }
-    if size > MOST_NAME {
-        complaints::words(
-            rt,
-            program,
-            path,
-            b": leads to a file whose name is too long\n",
-        );
-        return Ok(false);
-    }
-    store_at(rt, &target[..size], bytes)?;
-    Ok(true)
 }
 
 // Replaces the file, or the one that a link leads to; was it?

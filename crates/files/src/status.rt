@@ -1,4 +1,7 @@
 // What a program would end with, as a digit that it writes to a descriptor, where `./run` reads it.
+ghost use Rattle.std.specs.Prelude.{◌≡◌};
+ghost use Rattle.files.specs.Status.{digit_of};
+
 use std::fs::{File, OpenOptions};
 use std::io;
 use std::io::{Read, Seek, SeekFrom, Write};
@@ -6,14 +9,28 @@ use std::io::{Read, Seek, SeekFrom, Write};
 // All went well.
 pub const FINE: u8 = 0;
 
-// A file could not be read or written.
-pub const FAILED: u8 = 1;
+// Why a program does not end well.
+#[derive(Clone, Copy)]
+pub enum Fault {
+    // A file could not be read or written.
+    Failed,
+    // The arguments are wrong.
+    Wrong,
+    // Something was refused.
+    Refused,
+}
 
-// The arguments are wrong.
-pub const WRONG: u8 = 2;
+impl From<Fault> for u8 {
+    ghost from_gives = { λ fault n. n ≡ digit_of fault };
 
-// Something was refused.
-pub const REFUSED: u8 = 3;
+    fn from(fault: Fault) -> u8 {
+        match fault {
+            Fault::Failed => 1,
+            Fault::Wrong => 2,
+            Fault::Refused => 3,
+        }
+    }
+}
 
 // The library opens files by their names alone, and these are the names that the system has for descriptor 3 and for what it knows of it.
 const STATUS_FILE: &str = "/proc/self/fd/3";
@@ -33,28 +50,26 @@ const READ_ONLY: u64 = 0;
 const APPEND: u64 = 0o2000;
 
 fn fact<'a>(facts: &'a str, name: &str) -> &'a str {
-    for line in facts.lines() {
-        if let Some(value) = line.strip_prefix(name) {
-            return value.trim();
-        }
-    }
-    ""
+    facts
+        .lines()
+        .find_map(|line| line.strip_prefix(name))
+        .unwrap_or("")
+        .trim()
 }
 
 // Opened to be read too, where it may be, since a named pipe that nobody reads any more would else make the program wait.
 fn open(rt: &HostRuntime, append: bool) -> io::Result<File> {
-    match OpenOptions::new()
+    OpenOptions::new()
         .read(true)
         .write(true)
         .append(append)
         .open(rt, STATUS_FILE)
-    {
-        Ok(file) => Ok(file),
-        Err(_) => OpenOptions::new()
-            .write(true)
-            .append(append)
-            .open(rt, STATUS_FILE),
-    }
+        .or_else(|_| {
+            OpenOptions::new()
+                .write(true)
+                .append(append)
+                .open(rt, STATUS_FILE)
+        })
 }
 
 // At that place, where it has places: a pipe and a terminal have none.

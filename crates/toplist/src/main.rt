@@ -4,8 +4,8 @@
 use arguments::Wanted;
 use block::BLOCK_SIZE;
 use files::input::Input;
-use files::status::{FAILED, FINE, REFUSED, WRONG};
-use files::{Loaded, command_line, complaints, status};
+use files::status::{FINE, Fault};
+use files::{command_line, complaints, status};
 use image::MOST_BLOCKS;
 use listing::{Ending, Shown};
 use reader::Reader;
@@ -51,33 +51,28 @@ fn print_refused(rt: &HostRuntime, what: &[u8], number: u8) {
     complaints::refusal(rt, &PROGRAM, what, b": no saved table: refused ", number);
 }
 
-// What became of a line of the listing: it was written, there is none, or it could not be, which was said.
-#[derive(Clone, Copy)]
-enum Printed {
-    Line,
-    Past,
-    Failed,
+fn print_text(rt: &HostRuntime, text: &[u8]) -> Result<(), Fault> {
+    rt.write_all(text).map_err(|e| {
+        complaints::output(rt, &PROGRAM, e);
+        Fault::Failed
+    })
 }
 
-fn print_text(rt: &HostRuntime, text: &[u8]) -> Printed {
-    match rt.write_all(text) {
-        Ok(()) => Printed::Line,
-        Err(e) => {
-            complaints::output(rt, &PROGRAM, e);
-            Printed::Failed
+// A line of the listing; was there one?
+fn print_line(
+    rt: &HostRuntime,
+    k: usize,
+    reader: Reader,
+    table: &[u8],
+    ending: Ending,
+) -> Result<bool, Fault> {
+    let line = listing::line(k, reader.line.next, reader.board.rows, table, ending);
+    match line.shown {
+        Shown::Line(n) => {
+            print_text(rt, &line.text[..n])?;
+            Ok(true)
         }
-    }
-}
-
-fn print_line(rt: &HostRuntime, k: usize, reader: Reader, table: &[u8], ending: Ending) -> Printed {
-    let line = reader.line;
-    let board = reader.board;
-    let shown = listing::line(k, line.next, board.rows, table, ending);
-    let text = shown.text;
-    let what = shown.shown;
-    match what {
-        Shown::Line(n) => print_text(rt, &text[..n]),
-        Shown::Past => Printed::Past,
+        Shown::Past => Ok(false),
         Shown::Unfit => {
             complaints::refusal(
                 rt,
@@ -86,33 +81,38 @@ fn print_line(rt: &HostRuntime, k: usize, reader: Reader, table: &[u8], ending: 
                 b": not listed: refused ",
                 u8::from(table::Refusal::Unfit),
             );
-            Printed::Failed
+            Err(Fault::Failed)
         }
     }
 }
 
-// Line by line, as far as there are any; were all of them written?
-fn print_listing(rt: &HostRuntime, reader: Reader, table: &[u8], ending: Ending) -> bool {
+// Line by line, as far as there are any.
+fn print_listing(
+    rt: &HostRuntime,
+    reader: Reader,
+    table: &[u8],
+    ending: Ending,
+) -> Result<(), Fault> {
     for k in 0..MOST_LINES {
-        match print_line(rt, k, reader, table, ending) {
-            Printed::Line => {}
-            Printed::Past => return true,
-            Printed::Failed => return false,
+        if !print_line(rt, k, reader, table, ending)? {
+            break;
         }
     }
-    true
+    Ok(())
 }
 
-// Is the table saved?
-fn save(rt: &HostRuntime, reader: Reader, table: &[u8], path: &[u8]) -> bool {
+fn store(rt: &HostRuntime, path: &[u8], image: &[u8]) -> Result<(), Fault> {
+    if !files::store(rt, &PROGRAM, path, image) {
+        return Err(Fault::Failed);
+    }
+    Ok(())
+}
+
+fn save_to(rt: &HostRuntime, path: &[u8], reader: Reader, table: &[u8]) -> Result<(), Fault> {
     let mut image = [0u8; MOST_IMAGE];
     match reader.save(table, &mut image) {
-        Ok(n) => {
-            if n > MOST_IMAGE {
-                return false;
-            }
-            files::store(rt, &PROGRAM, path, &image[..n])
-        }
+        Ok(n) if n <= MOST_IMAGE => store(rt, path, &image[..n]),
+        Ok(_) => Err(Fault::Failed),
         Err(r) => {
             complaints::refusal(
                 rt,
@@ -121,205 +121,134 @@ fn save(rt: &HostRuntime, reader: Reader, table: &[u8], path: &[u8]) -> bool {
                 b": not saved: refused ",
                 u8::from(r),
             );
-            false
+            Err(Fault::Failed)
         }
     }
 }
 
-fn save_to(
-    rt: &HostRuntime,
-    argument: usize,
-    reader: Reader,
-    table: &[u8],
-    path: &mut [u8],
-) -> bool {
-    if argument == 0 {
-        return true;
-    }
-    let n = command_line::argument(rt, argument, path);
-    save(rt, reader, table, &path[..n])
+// To the file that an argument names, where one does.
+fn save(rt: &HostRuntime, file: Option<usize>, reader: Reader, table: &[u8]) -> Result<(), Fault> {
+    let Some(place) = file else {
+        return Ok(());
+    };
+    let mut space = [0u8; MOST_PATH];
+    let path = command_line::argument(rt, place, &mut space);
+    save_to(rt, path, reader, table)
 }
 
-// The reader to begin with, whether there is one, and what to end with if not.
-#[derive(Clone, Copy)]
-struct Begun {
-    reader: Reader,
-    is_ready: bool,
-    status: u8,
-}
-
-fn none(reader: Reader, status: u8) -> Begun {
-    Begun {
-        reader,
-        is_ready: false,
-        status,
-    }
-}
-
-fn ready(reader: Reader) -> Begun {
-    Begun {
-        reader,
-        is_ready: true,
-        status: FINE,
-    }
-}
-
-fn restored(
-    rt: &HostRuntime,
-    path: &[u8],
-    saved: &[u8],
-    table: &mut [u8],
-    index: &mut [u8],
-) -> Begun {
-    let back = Reader::restore(saved, table, index);
-    let reader = back.reader;
-    let verdict = back.verdict;
-    match verdict {
-        Ok(()) => ready(reader),
-        Err(r) => {
-            print_refused(rt, path, u8::from(r));
-            none(reader, REFUSED)
-        }
-    }
-}
-
-fn started(table: &mut [u8], index: &mut [u8]) -> Begun {
-    let s = Reader::start(table, index);
-    ready(s.reader)
-}
-
-// From a saved table; the fresh reader is handed back where the file could not be read.
+// The reader of a saved table, in the file that an argument names.
 fn resume(
     rt: &HostRuntime,
-    from: usize,
-    fresh: Reader,
-    path: &mut [u8],
+    place: usize,
     table: &mut [u8],
     index: &mut [u8],
-) -> Begun {
-    let n = command_line::argument(rt, from, path);
+) -> Result<Reader, Fault> {
+    let mut space = [0u8; MOST_PATH];
+    let path = command_line::argument(rt, place, &mut space);
     let mut saved = [0u8; LONGER_IMAGE];
-    match files::load(rt, &PROGRAM, &path[..n], &mut saved) {
-        Loaded::Bytes(size) => restored(rt, &path[..n], &saved[..size], table, index),
-        Loaded::Failed => none(fresh, FAILED),
+    let size = files::load(rt, &PROGRAM, path, &mut saved).ok_or(Fault::Failed)?;
+    let back = Reader::restore(&saved[..size], table, index);
+    match back.verdict {
+        Ok(()) => Ok(back.reader),
+        Err(r) => {
+            print_refused(rt, path, u8::from(r));
+            Err(Fault::Refused)
+        }
     }
 }
 
+// The reader to begin with: a fresh one, or that of a saved table.
 fn begin(
     rt: &HostRuntime,
-    from: usize,
-    path: &mut [u8],
+    from: Option<usize>,
     table: &mut [u8],
     index: &mut [u8],
-) -> Begun {
-    let fresh = started(table, index);
-    if from == 0 {
-        return fresh;
+) -> Result<Reader, Fault> {
+    let fresh = Reader::start(table, index);
+    match from {
+        Some(place) => resume(rt, place, table, index),
+        None => Ok(fresh.reader),
     }
-    resume(rt, from, fresh.reader, path, table, index)
 }
 
-// The session, where it can be opened.
-fn open_session(rt: &HostRuntime, argument: usize, path: &mut [u8]) -> Option<Input> {
-    if argument == 0 {
+// The session, where it can be opened: that in a file, or standard input.
+fn open_session(rt: &HostRuntime, session: Option<usize>) -> Option<Input> {
+    let Some(place) = session else {
         return Some(Input::Standard(rt.stdin()));
-    }
-    let n = command_line::argument(rt, argument, path);
-    files::open(rt, &PROGRAM, &path[..n])
-}
-
-// What came of a session that could not be read to its end is saved; where nothing came, a file that is there stays.
-fn salvage(rt: &HostRuntime, argument: usize, heard: Heard, table: &[u8], path: &mut [u8]) {
-    if heard.any {
-        save_to(rt, argument, heard.reader, table, path);
-    }
+    };
+    let mut space = [0u8; MOST_PATH];
+    let path = command_line::argument(rt, place, &mut space);
+    files::open(rt, &PROGRAM, path)
 }
 
 // Why the session could not be read to its end.
-fn complain(rt: &HostRuntime, argument: usize, error: io::Error, path: &mut [u8]) {
-    if argument == 0 {
+fn complain(rt: &HostRuntime, session: Option<usize>, error: io::Error) {
+    let Some(place) = session else {
         complaints::input(rt, &PROGRAM, b"standard input", error);
         return;
-    }
-    let n = command_line::argument(rt, argument, path);
-    complaints::input(rt, &PROGRAM, &path[..n], error);
+    };
+    let mut space = [0u8; MOST_PATH];
+    let path = command_line::argument(rt, place, &mut space);
+    complaints::input(rt, &PROGRAM, path, error);
 }
 
 // Saved first, and then listed.
-fn finish(rt: &HostRuntime, wanted: Wanted, reader: Reader, table: &[u8], path: &mut [u8]) -> u8 {
-    let ending = listing::ending_for(reader.refusal, reader.ended);
-    let is_saved = save_to(rt, wanted.save, reader, table, path);
-    if !print_listing(rt, reader, table, ending) {
-        return FAILED;
-    }
-    if !is_saved {
-        return FAILED;
-    }
-    if reader.refusal != 0 { REFUSED } else { FINE }
-}
-
-// What was heard is saved and listed, or it is said why the session could not be read to its end.
-fn conclude(rt: &HostRuntime, wanted: Wanted, heard: Heard, table: &[u8], path: &mut [u8]) -> u8 {
-    match heard.error {
-        None => finish(rt, wanted, heard.reader, table, path),
-        Some(e) => {
-            salvage(rt, wanted.save, heard, table, path);
-            complain(rt, wanted.session, e, path);
-            FAILED
-        }
-    }
-}
-
-fn proceed(
+fn finish(
     rt: &HostRuntime,
-    wanted: Wanted,
+    file: Option<usize>,
     reader: Reader,
-    mut input: Input,
-    path: &mut [u8],
-    table: &mut [u8],
-    index: &mut [u8],
-) -> u8 {
+    table: &[u8],
+) -> Result<(), Fault> {
+    let ending = listing::ending_for(reader.refusal, reader.ended);
+    let saved = save(rt, file, reader, table);
+    print_listing(rt, reader, table, ending)?;
+    saved?;
+    if reader.refusal != 0 {
+        return Err(Fault::Refused);
+    }
+    Ok(())
+}
+
+// What was heard is saved and listed, or it is said why the session could not be read to its end. What came of one that could not is saved;
+// where nothing came, a file that is there stays.
+fn conclude(rt: &HostRuntime, wanted: Wanted, heard: Heard, table: &[u8]) -> Result<(), Fault> {
+    let Some(e) = heard.error else {
+        return finish(rt, wanted.save, heard.reader, table);
+    };
+    if heard.any {
+        let _ = save(rt, wanted.save, heard.reader, table);
+    }
+    complain(rt, wanted.session, e);
+    Err(Fault::Failed)
+}
+
+// The reader takes table and index apart, and `session::read_all` promises of any two memories, so they are no struct.
+fn run(rt: &HostRuntime, wanted: Wanted, table: &mut [u8], index: &mut [u8]) -> Result<(), Fault> {
+    let reader = begin(rt, wanted.from, table, index)?;
+    let mut input = open_session(rt, wanted.session).ok_or(Fault::Failed)?;
     let heard = session::read_all(rt, &mut input, reader, table, index);
     files::close(input);
-    conclude(rt, wanted, heard, table, path)
-}
-
-fn run(
-    rt: &HostRuntime,
-    wanted: Wanted,
-    path: &mut [u8],
-    table: &mut [u8],
-    index: &mut [u8],
-) -> u8 {
-    let begun = begin(rt, wanted.from, path, table, index);
-    if !begun.is_ready {
-        return begun.status;
-    }
-    match open_session(rt, wanted.session, path) {
-        Some(input) => proceed(rt, wanted, begun.reader, input, path, table, index),
-        None => FAILED,
-    }
+    conclude(rt, wanted, heard, table)
 }
 
 // What the arguments ask for.
-fn answer(rt: &HostRuntime, wanted: Wanted) -> u8 {
+fn answer(rt: &HostRuntime, wanted: Wanted) -> Result<(), Fault> {
     if wanted.wrong {
         print_usage(rt);
-        return WRONG;
+        return Err(Fault::Wrong);
     }
     if wanted.help {
         print_help(rt);
-        return FINE;
+        return Ok(());
     }
-    let mut path = [0u8; MOST_PATH];
     let mut table = [0u8; TABLE_SIZE];
     let mut index = [0u8; INDEX_SIZE];
-    run(rt, wanted, &mut path, &mut table, &mut index)
+    run(rt, wanted, &mut table, &mut index)
 }
 
 fn main(rt: HostRuntime) {
     let wanted = arguments::read(&rt);
-    let status = answer(&rt, wanted);
+    let status = answer(&rt, wanted).map_or_else(u8::from, |()| FINE);
     if wanted.status {
         status::write(&rt, status);
     }

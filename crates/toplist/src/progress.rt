@@ -14,67 +14,44 @@ pub struct Progress {
 
 // The second of the clock, 0 where the system does not say it.
 fn second(rt: &HostRuntime) -> u64 {
-    match rt.since_1970() {
-        Ok(time) => time.as_secs(),
-        Err(_) => 0,
-    }
+    rt.since_1970().map_or(0, |time| time.as_secs())
 }
 
-pub fn start(rt: &HostRuntime, next: u64) -> Progress {
-    Progress {
-        is_terminal: rt.stderr().is_terminal(),
-        is_shown: false,
-        second: second(rt),
-        bytes: 0,
-        first: next,
-    }
-}
-
-// One number less another, 0 where it is more.
-fn past(n: u64, first: u64) -> u64 {
-    if n < first {
-        return 0;
-    }
-    n - first
-}
-
-// One number and another, the highest where they have no room.
-fn sum(n: u64, more: u64) -> u64 {
-    if u64::MAX - n < more {
-        return u64::MAX;
-    }
-    n + more
-}
-
-fn show(rt: &HostRuntime, bytes: u64, messages: u64) {
-    let _ = eprint!(rt; "\rtoplist: {bytes} bytes, {messages} messages");
-}
-
-// So many bytes more came, and the next message has that number.
-pub fn told(rt: &HostRuntime, p: Progress, count: usize, next: u64) -> Progress {
-    let bytes = sum(p.bytes, count as u64);
-    let first = p.first;
-    let mut now = p.second;
-    let mut is_shown = p.is_shown;
-    if p.is_terminal {
-        now = second(rt);
-        if now != p.second {
-            show(rt, bytes, past(next, first));
-            is_shown = true;
+impl Progress {
+    pub fn start(rt: &HostRuntime, next: u64) -> Progress {
+        Progress {
+            is_terminal: rt.stderr().is_terminal(),
+            is_shown: false,
+            second: second(rt),
+            bytes: 0,
+            first: next,
         }
     }
-    Progress {
-        is_terminal: p.is_terminal,
-        is_shown,
-        second: now,
-        bytes,
-        first,
-    }
-}
 
-// Clears the line.
-pub fn clear(rt: &HostRuntime, p: Progress) {
-    if p.is_shown {
-        let _ = Print::write_all(&rt.stderr(), b"\r\x1b[K");
+    fn show(&self, rt: &HostRuntime, next: u64) {
+        let bytes = self.bytes;
+        let messages = next.saturating_sub(self.first);
+        let _ = eprint!(rt; "\rtoplist: {bytes} bytes, {messages} messages");
+    }
+
+    // So many bytes more came, and the next message has that number.
+    pub fn told(&mut self, rt: &HostRuntime, count: usize, next: u64) {
+        self.bytes = self.bytes.saturating_add(count as u64);
+        if !self.is_terminal {
+            return;
+        }
+        let now = second(rt);
+        if now != self.second {
+            self.show(rt, next);
+            self.second = now;
+            self.is_shown = true;
+        }
+    }
+
+    // Clears the line.
+    pub fn clear(&self, rt: &HostRuntime) {
+        if self.is_shown {
+            let _ = Print::write_all(&rt.stderr(), b"\r\x1b[K");
+        }
     }
 }

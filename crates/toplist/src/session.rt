@@ -3,7 +3,6 @@ ghost use Rattle.std.specs.Prelude.{◌≡◌, ◌≤◌, length};
 ghost use Rattle.table.specs.Memory.{memories};
 ghost use Rattle.toplist.specs.Feeding.{takes_more, RunsFrom, Feeds, Stays};
 
-use crate::progress;
 use crate::progress::Progress;
 use files::input::Input;
 use reader::{MOST_PACKETS, Reader};
@@ -20,22 +19,19 @@ pub struct Reached {
     pub at: usize,
 }
 
-// What one read brought: the reader after it, how many bytes came, and the error that broke the input off, where there is one.
+// What one read brought: the reader after it, and how many bytes came, or the error that broke the input off.
 #[derive(Clone, Copy)]
 struct Brought {
     reader: Reader,
-    count: usize,
-    error: Option<io::Error>,
+    came: io::Result<usize>,
 }
 
-// The reader, whether any byte came and whether all have, the error that broke the input off, where there is one, and what was shown of it.
+// The reader, whether any byte came, and the error that broke the input off, where there is one.
 #[derive(Clone, Copy)]
 pub struct Heard {
     pub reader: Reader,
     pub any: bool,
-    pub over: bool,
     pub error: Option<io::Error>,
-    pub shown: Progress,
 }
 
 // Has the reader neither refused nor ended?
@@ -94,93 +90,24 @@ fn read_some(
     match input.read(space) {
         Ok(n) => Brought {
             reader: feed(reader, &space[..n], table, index),
-            count: n,
-            error: None,
+            came: Ok(n),
         },
         Err(e) => Brought {
             reader,
-            count: 0,
-            error: Some(e),
+            came: Err(e),
         },
     }
 }
 
 // Is there no more to come? A read that a signal broke off is done again.
-fn is_over(count: usize, error: Option<io::Error>) -> bool {
-    if count != 0 {
-        return false;
-    }
-    match error {
-        Some(e) => e.kind() != io::ErrorKind::Interrupted,
-        None => true,
+fn is_over(came: io::Result<usize>) -> bool {
+    match came {
+        Ok(n) => n == 0,
+        Err(e) => e.kind() != io::ErrorKind::Interrupted,
     }
 }
 
-// What has been heard, with what one more read brought.
-fn after(rt: &HostRuntime, heard: Heard, b: Brought) -> Heard
-    ensures { result.reader ≡ b.reader }
-{
-    let reader = b.reader;
-    Heard {
-        reader,
-        any: heard.any | (b.count != 0),
-        over: is_over(b.count, b.error),
-        error: b.error,
-        shown: progress::told(rt, heard.shown, b.count, reader.line.next),
-    }
-}
-
-// One more read.
-fn hear(
-    rt: &HostRuntime,
-    input: &mut Input,
-    heard: Heard,
-    space: &mut [u8],
-    table: &mut [u8],
-    index: &mut [u8],
-) -> Heard
-    ensures { Stays heard.reader (memories table.old index.old) result.reader (memories table.new index.new) }
-{
-    let b = read_some(input, heard.reader, space, table, index);
-    after(rt, heard, b)
-}
-
-// Does the reader take more, and may more come?
-fn goes_on(heard: Heard) -> bool {
-    if heard.over {
-        return false;
-    }
-    takes_more(heard.reader)
-}
-
-// Reads and runs to the end. A proved loop has to end, so it has a number of turns that no input uses up.
-fn listen(
-    rt: &HostRuntime,
-    input: &mut Input,
-    reader: Reader,
-    space: &mut [u8],
-    table: &mut [u8],
-    index: &mut [u8],
-) -> Heard
-    ensures { Stays reader (memories table.old index.old) result.reader (memories table.new index.new) }
-{
-    let mut heard = Heard {
-        reader,
-        any: false,
-        over: false,
-        error: None,
-        shown: progress::start(rt, reader.line.next),
-    };
-    for _ in 0..u64::MAX {
-        if !goes_on(heard) {
-            return heard;
-        }
-        heard = hear(rt, input, heard, space, table, index);
-    }
-    heard
-}
-
-// All of the input.
+// Reads and runs to the end of the input. A proved loop has to end, so it has a number of turns that no input uses up.
 pub fn read_all(
     rt: &HostRuntime,
     input: &mut Input,
@@ -190,8 +117,29 @@ pub fn read_all(
 ) -> Heard
     ensures { Stays reader (memories table.old index.old) result.reader (memories table.new index.new) }
 {
-    let mut buffer = [0u8; MOST_PIECE];
-    let heard = listen(rt, input, reader, &mut buffer, table, index);
-    progress::clear(rt, heard.shown);
+    let mut space = [0u8; MOST_PIECE];
+    let mut progress = Progress::start(rt, reader.line.next);
+    let mut heard = Heard {
+        reader,
+        any: false,
+        error: None,
+    };
+    for _ in 0..u64::MAX {
+        if !takes_more(heard.reader) {
+            break;
+        }
+        let brought = read_some(input, heard.reader, &mut space, table, index);
+        let n = brought.came.unwrap_or(0);
+        progress.told(rt, n, brought.reader.line.next);
+        heard = Heard {
+            reader: brought.reader,
+            any: heard.any | (n != 0),
+            error: brought.came.err(),
+        };
+        if is_over(brought.came) {
+            break;
+        }
+    }
+    progress.clear(rt);
     heard
 }

@@ -10,7 +10,7 @@ use Rattle.field.proofs.Parts.{overlay-length, part-overlay}
 use Rattle.block.specs.Block.{block_size, head_at}
 use Rattle.block.specs.declared.Head.{Head}
 use Rattle.image.specs.Header.{header_of}
-use Rattle.image.specs.Save.{refusal_number, Saving, saving}
+use Rattle.image.specs.Save.{Saving, saving}
 use Rattle.image.specs.Restore.{version_of}
 use Rattle.image.specs.Moves.{wanted_by, moved_of, move_of, lost_of}
 use Rattle.image.specs.declared.Refusal.{Refusal}
@@ -20,11 +20,7 @@ use Rattle.image.proofs.Moved.{moved-size, moved-header, moved-version}
 use Rattle.image.proofs.Calls.{Went, went}
 use Rattle.topmove.specs.Moving.{facts_of, moved_from, outcome_of}
 use Rattle.topmove.specs.declared.moving.Moved.{Moved}
-use Rattle.topmove.specs.declared.moving.Outcome.{Outcome}
-use Rattle.topmove.specs.declared.moving.Outcome.TheVariants.{Done, Refused}
-use Rattle.std.specs.Prelude.{Err}
-use Rattle.std.specs.Prelude.{Ok}
-use Rattle.std.specs.Prelude.{Result}
+use Rattle.std.specs.Prelude.{Result, Ok, Err}
 
 -- the move by its way
 pub by_way : {way v : Way} {s : Saving} (image out : List ℕ) → way ≡ v → s ≡ move_of v image out → s ≡ move_of way image out
@@ -78,24 +74,24 @@ module _ (way : Way) (image out : List ℕ) {r : Result ℕ Refusal} {z : List �
     pub front-block : block_size ≤ length (take n z)
     front-block = omega (arith, ap length front-is, size_is, image-kept.size.some, done.size)
 
-    pub said : {m : Moved} → m ≡ facts_of image (take n z) → Done m ≡ outcome_of way image (move_of way image out).answer
+    pub said : {m : Moved} → m ≡ facts_of image (take n z) → ◌≡◌ {A = Result Moved Refusal} (Ok m) (outcome_of way image (move_of way image out).answer)
     unfolding outcome_of
     said f =
-        ap Done (f ∙ ap (facts_of image) front-is ∙ facts-moved way image image-kept) ∙ ap (outcome_of way image) (sym w ∙ ap (λ (s : Saving). s.answer) e)
+        ap Ok (f ∙ ap (facts_of image) front-is ∙ facts-moved way image image-kept) ∙ ap (outcome_of way image) (sym w ∙ ap (λ (s : Saving). s.answer) e)
 
-  pub refused : (q : Refusal) {number : ℕ} → r ≡ Err q → number ≡ refusal_number q → Refused number ≡ outcome_of way image (move_of way image out).answer
+  pub refused : (q : Refusal) → r ≡ Err q → ◌≡◌ {A = Result Moved Refusal} (Err q) (outcome_of way image (move_of way image out).answer)
   unfolding outcome_of
-  refused q w f = ap Refused f ∙ ap (outcome_of way image) (sym w ∙ ap (λ (s : Saving). s.answer) e)
+  refused q w = ap (outcome_of way image) (sym w ∙ ap (λ (s : Saving). s.answer) e)
 
 -- ---- the bytes of which it is said
 
-module _ (way : Way) (image out : List ℕ) {o : Outcome} {z : List ℕ} (m : Moved) (p : o ≡ Done m) (e : o ≡ outcome_of way image (move_of way image out).answer)
+module _ (way : Way) (image out : List ℕ) {o : Result Moved Refusal} {z : List ℕ} (m : Moved) (p : o ≡ Ok m) (e : o ≡ outcome_of way image (move_of way image out).answer)
     (f : z ≡ (move_of way image out).out) where
   pub moved_inside : m.size ≤ length z
   unfolding outcome_of moved_from
   moved_inside = by (move_of way image out).answer refl (sym e ∙ p)
     where
-      by : (s : Result ℕ Refusal) → (move_of way image out).answer ≡ s → outcome_of way image s ≡ Done m → m.size ≤ length z
+      by : (s : Result ℕ Refusal) → (move_of way image out).answer ≡ s → outcome_of way image s ≡ Ok m → m.size ≤ length z
       by (Ok n) a g =
           let is : saving (Ok n) z ≡ move_of way image out = λ j. saving (sym a j) (f j) in
           let y : moved_from way image ≡ m = cc in

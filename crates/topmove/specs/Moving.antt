@@ -1,17 +1,11 @@
 -- What the program makes of an image: the bytes of the move, and what is said of them.
 -- Assumes nothing.
-use Rattle.std.specs.Prelude.{ℕ, List, length}
+use Rattle.std.specs.Prelude.{ℕ, List, length, Result, Ok, Err}
 use Rattle.image.specs.Header.{header_of}
-use Rattle.image.specs.Save.{refusal_number}
 use Rattle.image.specs.Restore.{version_of}
 use Rattle.image.specs.Moves.{version_after, lost_of}
 use Rattle.image.specs.declared.Way.{Way}
 use Rattle.topmove.specs.declared.moving.Moved.{Moved}
-use Rattle.topmove.specs.declared.moving.Outcome.{Outcome}
-use Rattle.topmove.specs.declared.moving.Outcome.TheVariants.{Done, Refused}
-use Rattle.std.specs.Prelude.{Err}
-use Rattle.std.specs.Prelude.{Ok}
-use Rattle.std.specs.Prelude.{Result}
 use Rattle.image.specs.declared.Refusal.{Refusal}
 
 -- read off the moved bytes
@@ -29,7 +23,7 @@ moved_from way image =
       lost = lost_of image;
     }
 
--- and of a refusal its number
-unfoldable pub outcome_of : Way → List ℕ → Result ℕ Refusal → Outcome
-outcome_of way image (Ok n) = Done (moved_from way image)
-outcome_of way image (Err r) = Refused (refusal_number r)
+-- and a refusal is handed on
+unfoldable pub outcome_of : Way → List ℕ → Result ℕ Refusal → Result Moved Refusal
+outcome_of way image (Ok n) = Ok (moved_from way image)
+outcome_of way image (Err r) = Err r

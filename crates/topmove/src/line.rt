@@ -10,7 +10,8 @@ use image::Way;
 // No line is longer.
 pub const LINE_SIZE: usize = 96;
 
-// A word and a number behind it, from `at` on; answers where they end.
+// A word and a number behind it, from `at` on; answers where they end. `write!` promises its text only where it answers Ok, and the line is
+// promised wherever it has room, so `field` lays the digits.
 fn put_number(out: &mut [u8], at: usize, word: &[u8], v: u64) -> usize
     requires { (at + 28 ≤ length out.old) × (length word.now ≤ 8) }
     ensures out_after { out.new ≡ overlay out.old at (word.now ++ chars v) }
@@ -33,7 +34,7 @@ fn put_start(out: &mut [u8], moved: Moved) -> usize
     put_number(out, end, b", ", moved.rows)
 }
 
-// The rest of the line, from `at` on: only a move back loses times.
+// The rest of the line, from `at` on: only a move back loses times. The promise names the way, so it is a value here and no closure.
 fn put_rest(out: &mut [u8], at: usize, way: Way, lost: u64) -> usize
     requires { at + 40 ≤ length out.old }
     ensures out_after { out.new ≡ overlay out.old at (rest_of way lost) }

@@ -21,14 +21,7 @@ pub struct Moved {
     pub lost: u64,
 }
 
-#[derive(Clone, Copy)]
-pub enum Outcome {
-    Done(Moved),
-    // The number of the refusal.
-    Refused(u8),
-}
-
-// The image as the other version has it, to the front of `out`.
+// The image as the other version has it, to the front of `out`. The promise names the way, so it is a value here and no closure.
 fn save(way: Way, image: &[u8], out: &mut [u8]) -> Result<usize, image::Refusal>
     ensures { saving result out.new ≡ move_of way image.now out.old }
 {
@@ -53,12 +46,10 @@ fn facts(image: &[u8], moved: &[u8]) -> Moved
 }
 
 // Moves an image to the front of `out`, and answers what is said of it; a refusal leaves `out`.
-pub fn move_image(way: Way, image: &[u8], out: &mut [u8]) -> Outcome
+pub fn move_image(way: Way, image: &[u8], out: &mut [u8]) -> Result<Moved, image::Refusal>
     ensures said { result ≡ outcome_of way image.now (move_of way image.now out.old).answer }
     ensures written { out.new ≡ (move_of way image.now out.old).out }
 {
-    match save(way, image, out) {
-        Ok(n) => Outcome::Done(facts(image, &out[..n])),
-        Err(r) => Outcome::Refused(u8::from(r)),
-    }
+    let n = save(way, image, out)?;
+    Ok(facts(image, &out[..n]))
 }

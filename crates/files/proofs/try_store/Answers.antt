@@ -4,4 +4,4 @@ use lib.ListN.{length-take}
 use Rattle.files.proofs.try_store.Goals as goal
 
 pub store_at-requires : goal.store_at-requires
-store_at-requires c = omega (arith, length-take c.in_ok-size.size c.followed.new.path)
+store_at-requires c = omega (arith, length-take c.in-Some.size c.followed.new.path)

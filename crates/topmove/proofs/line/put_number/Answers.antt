@@ -2,12 +2,7 @@
 use Rattle.topmove.proofs.Texts.{number_behind}
 use Rattle.topmove.proofs.line.put_number.Goals as goal
 
-pub returns-clause-out_after : goal.returns-clause-out_after
-returns-clause-out_after c =
-    (number_behind c.args.out.now c.args.at c.args.word.now c.args.v c.requires.0 c.requires.1 c.digit_count-digits.ensures.count c.digit_count-digits.ensures.most
-    c.copy.ensures c.write_digits.ensures).0
-
-pub returns-clause-value : goal.returns-clause-value
-returns-clause-value c =
-    (number_behind c.args.out.now c.args.at c.args.word.now c.args.v c.requires.0 c.requires.1 c.digit_count-digits.ensures.count c.digit_count-digits.ensures.most
-    c.copy.ensures c.write_digits.ensures).1
+pub returns : goal.returns
+returns c =
+    let put = number_behind c.args.out.now c.args.at c.args.word.now c.args.v c.requires.0 c.requires.1 c.digit_count-digits.ensures.count c.digit_count-digits.ensures.most c.copy.ensures c.write_digits.ensures in
+    record { out_after = put.0; value = put.1 }
