@@ -82,7 +82,7 @@ pub fn nelqubat_start(handle: &mut [u8], table: &mut [u8], index: &mut [u8]) -> 
     put_unheld(reader.head(), handle);
     match answer {
         Ok(()) => 0,
-        Err(r) => reader::refusals::number(r) as u32,
+        Err(r) => u8::from(r) as u32,
     }
 }
 

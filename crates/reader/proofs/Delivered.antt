@@ -45,6 +45,10 @@ use Rattle.handle.proofs.Laid.{handle-back}
 use Rattle.handle.proofs.Single.{next-put, live-put, rows-put, refusal-put, event-put}
 use Rattle.reader.specs.Deliver.{Table, table_of, table_by, Said, said, settled_by, settled, heard, deliver}
 use Rattle.reader.specs.Calls.{verdict_number}
+use Rattle.reader.specs.Refusals.{refusal_number, number_in, named, named_in}
+use Rattle.reader.specs.declared.Refusal as own_refusal
+use Rattle.reader.proofs.Ways.{some_number}
+use borrow.Author.Tests.{eqb-false}
 use Rattle.reader.specs.Handles.{event_number, told_number, Left, left}
 use Rattle.reader.specs.Shapes.{Going, Ready, closed_as, applied_as, tried_as}
 use Rattle.std.specs.Prelude.{Err}
@@ -94,6 +98,17 @@ tested_low bs e = rw e (by (read_of bs).answer)
     by (Err message_refusals.UnknownLetter) = omega arith
     by (Err message_refusals.WrongLength) = omega arith
     by (Err message_refusals.BadField) = omega arith
+
+-- the number of a test that failed has a name
+tested_named : (bs : List ℕ) {n : ℕ} → n ≡ tested (read_of bs) → (n ≡ 0 → ⊥) → refusal_number (named n) ≡ n
+unfolding named named_in
+tested_named bs e d = rw e (by (read_of bs).answer (λ z. d (e ∙ z)))
+  where
+    by : (a : Result Message Refusal) → (tested_as a ≡ 0 → ⊥) → refusal_number (named (tested_as a)) ≡ tested_as a
+    by (Ok m) h = absurd (h refl)
+    by (Err message_refusals.UnknownLetter) h = refl
+    by (Err message_refusals.WrongLength) h = refl
+    by (Err message_refusals.BadField) h = refl
 
 -- ---- what a message does, by its reading
 
@@ -175,8 +190,10 @@ module _ (handle : List ℕ) (table : Memories) (g : Going handle table) (lent :
   pub tried-empty : length body ≡ 0 → left 10 handle table ≡ tried_as (deliver here body) handle
   tried-empty e = refuses (test-empty body e) (λ z. omega arith)
 
-  pub tried-bad : {n : ℕ} → n ≡ tested (read_of body) → (n ≡ 0 → ⊥) → left n handle table ≡ tried_as (deliver here body) handle
-  tried-bad = refuses
+  -- the refusal of that number
+  pub tried-bad : {n : ℕ} {r : own_refusal.Refusal} → n ≡ tested (read_of body) → (n ≡ 0 → ⊥) → r ≡ named n
+      → left (refusal_number r) handle table ≡ tried_as (deliver here body) handle
+  tried-bad {n} e d f = ap (λ (k : ℕ). left k handle table) (ap refusal_number f ∙ tested_named body e d) ∙ refuses e d
 
   -- what was promised of the message that the bytes are
   module _ {n r : ℕ} (e : n ≡ tested (read_of body)) (z : n ≡ 0) (handle' : List ℕ) (table' : Memories)
@@ -227,7 +244,7 @@ deliver-some : (t : Table) (body : List ℕ) → DeniedSome (deliver t body)
 unfolding deliver
 deliver-some t body = heard-some t (read_of body).texts (read_of body).answer
 
-module _ (handle : List ℕ) (table : Memories) (g : Ready handle table) (r : ℕ) (handle' : List ℕ) (table' : Memories) where
+module _ (handle : List ℕ) (table : Memories) (g : Ready handle table) (v : Result (Unit {0}) own_refusal.Refusal) (handle' : List ℕ) (table' : Memories) where
   abbrev h : Head
   h = head_of handle
 
@@ -238,26 +255,27 @@ module _ (handle : List ℕ) (table : Memories) (g : Ready handle table) (r : �
   ten = own-ten handle g.going.handle-is
 
   abbrev Tried : Delivered Table Said → Type 0
-  Tried d = left r handle' table' ≡ tried_as d handle
+  Tried d = left (number_in v) handle' table' ≡ tried_as d handle
 
   -- a refusal stands
-  refused_as : (d : Delivered Table Said) {a : ℕ} {handle'' : List ℕ} → Tried d → (r ≡ 0 → ⊥) → a ≡ 2048 + r → handle'' ≡ with_field refusal_field r handle'
+  refused_as : (d : Delivered Table Said) (r : own_refusal.Refusal) {a : ℕ} {handle'' : List ℕ} → Tried d → v ≡ Err r → a ≡ 2048 + refusal_number r
+      → handle'' ≡ with_field refusal_field (refusal_number r) handle'
       → left a handle'' table' ≡ closed_as (delivered h.line d) handle
   unfolding told_number
-  refused_as (done x t) w z f p = absurd (z (ap (λ (s : Left). s.number) w))
-  refused_as (denied n t) {a} w z f p =
-      let same : r ≡ n = ap (λ (s : Left). s.number) w in
-      let put = refusal-put (with_board t.board h) held ten (ap (λ (s : Left). s.handle) w) r p in
+  refused_as (done x t) r w z f p = absurd (eqb-false (refusal_number r) 0 (some_number r) (sym (ap number_in z) ∙ ap (λ (s : Left). s.number) w))
+  refused_as (denied n t) r {a} w z f p =
+      let same : refusal_number r ≡ n = sym (ap number_in z) ∙ ap (λ (s : Left). s.number) w in
+      let put = refusal-put (with_board t.board h) held ten (ap (λ (s : Left). s.handle) w) (refusal_number r) p in
       let count : a ≡ 2048 + n + 0 * 65_536 = omega (arith, f, same) in
       (λ i. left (count i) (put i) (w i).memory)
       ∙ (λ i. left (2048 + n + 0 * 65_536)
       (handle_bytes (record { line = h.line; board = t.board; ended = g.going.live i; refusal = same i; used = g.unheld i }) held) t.memory)
 
   -- an accepted message takes the next number
-  done-as : (d : Delivered Table Said) {handle'' : List ℕ} (next : ℕ) → DeniedSome d → Tried d → r ≡ 0 → next ≡ number_after h.line.next
+  done-as : (d : Delivered Table Said) {handle'' : List ℕ} (next : ℕ) → DeniedSome d → Tried d → v ≡ Ok (tt {0}) → next ≡ number_after h.line.next
       → handle'' ≡ with_field next_field next handle' → left 768 handle'' table' ≡ closed_as (delivered h.line d) handle
   unfolding told_number event_number
-  done-as (denied n t) next some w z f p = absurd (some (sym (ap (λ (s : Left). s.number) w) ∙ z))
+  done-as (denied n t) next some w z f p = absurd (some (sym (ap (λ (s : Left). s.number) w) ∙ ap number_in z))
   done-as (done x t) next some w z f p =
       let put = next-put (with_board t.board h) held ten (ap (λ (s : Left). s.handle) w) next p in
       (λ i. left 768 (put i) (w i).memory)
@@ -271,11 +289,12 @@ module _ (handle : List ℕ) (table : Memories) (g : Ready handle table) (r : �
       }) held) t.memory)
 
   module _ (body : List ℕ) (e : Tried (deliver (table_of h.board table) body)) where
-    pub message-refused : {a : ℕ} {handle'' : List ℕ} → (r ≡ 0 → ⊥) → a ≡ 2048 + r → handle'' ≡ with_field refusal_field r handle'
+    pub message-refused : (r : own_refusal.Refusal) {a : ℕ} {handle'' : List ℕ} → v ≡ Err r → a ≡ 2048 + refusal_number r
+        → handle'' ≡ with_field refusal_field (refusal_number r) handle'
         → left a handle'' table' ≡ closed_as (delivered h.line (deliver (table_of h.board table) body)) handle
-    message-refused = refused_as (deliver (table_of h.board table) body) e
+    message-refused r = refused_as (deliver (table_of h.board table) body) r e
 
-    pub message-done : {handle'' : List ℕ} (next : ℕ) → r ≡ 0 → next ≡ number_after h.line.next → handle'' ≡ with_field next_field next handle'
+    pub message-done : {handle'' : List ℕ} (next : ℕ) → v ≡ Ok (tt {0}) → next ≡ number_after h.line.next → handle'' ≡ with_field next_field next handle'
         → left 768 handle'' table' ≡ closed_as (delivered h.line (deliver (table_of h.board table) body)) handle
     message-done next = done-as (deliver (table_of h.board table) body) next (deliver-some (table_of h.board table) body) e
 

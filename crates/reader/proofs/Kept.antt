@@ -62,13 +62,18 @@ module _ (r : Reader) where
   unfolding holds_unfinished unfinished
   held-short h e f = rw (le-leb r.used held_size h, short-there (held_of r) e f)
 
-  pub held-bad : {w : Framing} → r.used ≤ held_size → w ≡ front_of (frame (held_of r)) → w ≡ BadLength → false ≡ holds_unfinished r
+  held-bad : {w : Framing} → r.used ≤ held_size → w ≡ front_of (frame (held_of r)) → w ≡ BadLength → false ≡ holds_unfinished r
   unfolding holds_unfinished unfinished
   held-bad h e f = rw (le-leb r.used held_size h, (bad-there (held_of r) e f).is)
 
-  pub held_whole : {w : Framing} {n : ℕ} → r.used ≤ held_size → w ≡ front_of (frame (held_of r)) → w ≡ Whole n → false ≡ holds_unfinished r
+  held_whole : {w : Framing} {n : ℕ} → r.used ≤ held_size → w ≡ front_of (frame (held_of r)) → w ≡ Whole n → false ≡ holds_unfinished r
   unfolding holds_unfinished unfinished
   held_whole h e f = rw (le-leb r.used held_size h, (whole-there (held_of r) e f).is)
+
+  pub held-other : (w : Framing) → r.used ≤ held_size → w ≡ front_of (frame (held_of r)) → (w ≡ Short → ⊥) → false ≡ holds_unfinished r
+  held-other Short h e d = absurd (d refl)
+  held-other BadLength h e d = held-bad h e refl
+  held-other (Whole n) h e d = held_whole h e refl
 
 short-is : (f : Framed) → is_short f ≡ true → f ≡ short
 short-is short e = refl

@@ -65,11 +65,9 @@ pub reader-back : (h : Head) (held : List ℕ) → HeadFits h → length held �
 reader-back h held f l i = reader_with (laid-head h held f i) (laid-places h held f.session l i)
 
 -- read by the code: the places are copied, and the head is read
-pub reader-there : (handle blank held : List ℕ) (h : Head) (r : Reader) → length handle ≡ handle_size → length blank ≡ held_size → h ≡ head_of handle
-    → held ≡ overlay blank 0 (places_in handle) → r ≡ reader_with h held → r ≡ reader_in handle
-reader-there handle blank held h r l m e f g =
-    let n : length (places_in handle) ≡ held_size = part_length handle head_size held_size (omega (arith, l)) in
-    g ∙ ap (reader_with h) (f ∙ overlay-whole blank (places_in handle) (n ∙ sym m)) ∙ ap (λ (x : Head). reader_with x (places_in handle)) e
+pub reader-there : (handle held : List ℕ) (h : Head) (r : Reader) → h ≡ head_of handle → held ≡ places_in handle → r ≡ reader_with h held
+    → r ≡ reader_in handle
+reader-there handle held h r e f g = g ∙ ap (reader_with h) f ∙ ap (λ (x : Head). reader_with x (places_in handle)) e
 
 -- laid by the code: the places first, and then the head
 pub reader-laid : (r : Reader) (h : Head) (blank first all : List ℕ) → length r.line.session ≡ 10 → length r.held ≡ held_size

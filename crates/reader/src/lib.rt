@@ -152,7 +152,7 @@ fn straight(handle: &mut [u8], rows: usize, table: &mut [u8], index: &mut [u8], 
             taken as u32 * told::BYTE_TAKEN
         }
         Framing::BadLength => {
-            told::refuse(refusals::number(Refusal::BadPacketLength), handle) + 2 * told::BYTE_TAKEN
+            told::refuse(Refusal::BadPacketLength, handle) + 2 * told::BYTE_TAKEN
         }
         Framing::Whole(size) => {
             let end = size + 2;
@@ -427,7 +427,7 @@ impl Reader {
             },
             Err(r) => Started {
                 reader,
-                answer: Err(refusals::of_table(r)),
+                answer: Err(Refusal::from(r)),
             },
         }
     }
@@ -448,9 +448,10 @@ impl Reader {
         requires { length handle.now ≡ handle_size }
         ensures { result ≡ reader_in handle.now }
     {
-        let mut held = [0u8; HELD_SIZE];
-        field::copy(handle, HEAD_SIZE, HELD_SIZE, &mut held, 0);
-        Reader::with(handle::read_head(handle), held)
+        Reader::with(
+            handle::read_head(handle),
+            field::bytes::<HELD_SIZE>(handle, HEAD_SIZE),
+        )
     }
 
     // Takes at most one packet of the piece: the step on bytes of its own, with event memory of its own.

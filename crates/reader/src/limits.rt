@@ -15,11 +15,7 @@ fn holds_unfinished(used: usize, held: &[u8]) -> bool
     if HELD_SIZE < used {
         return false;
     }
-    match packet::front(&held[..used]) {
-        Framing::Short => true,
-        Framing::BadLength => false,
-        Framing::Whole(_) => false,
-    }
+    matches!(packet::front(&held[..used]), Framing::Short)
 }
 
 // Does a handle with these numbers and places of held bytes keep its limits, with that table memory?

@@ -10,6 +10,7 @@ use Rattle.handle.specs.Handle.{handle_size, head_of}
 use Rattle.handle.specs.declared.Head.{Head}
 use Rattle.handle.proofs.Rounds.{handle-length}
 use Rattle.reader.proofs.Ways.{login-long}
+use Rattle.reader.proofs.Fits.{number-low}
 use Rattle.reader.proofs.Judged.{other-login, other-rejected, other-heartbeat, other-end, other-skipped, other-refused, other-never}
 use Rattle.reader.proofs.packets.other.Goals as goal
 
@@ -75,4 +76,4 @@ returns-in-Skipped c =
 pub returns-in-Refused : goal.returns-in-Refused
 returns-in-Refused c =
     let lent : Lent c.args.handle.now = search (rules, c.slice_known-1) in
-    let judged : (c.judge.result ≡ packet_of (head_of c.args.handle.now).line c.args.letter c.args.body.now) = c.judge.ensures ∙ ap (λ (x : Head). packet_of x.line c.args.letter c.args.body.now) c.read_head-head.ensures in record { closes = other-refused c.args.handle.now c.requires.0 lent c.args.letter c.args.body.now judged c.of_packet.result c.in-Refused.is c.of_packet.ensures c.number.ensures c.refuse.ensures.value c.refuse.ensures.handle_after; upper_bound = omega (arith, c.refuse.ensures.value, c.number) }
+    let judged : (c.judge.result ≡ packet_of (head_of c.args.handle.now).line c.args.letter c.args.body.now) = c.judge.ensures ∙ ap (λ (x : Head). packet_of x.line c.args.letter c.args.body.now) c.read_head-head.ensures in record { closes = other-refused c.args.handle.now c.requires.0 lent c.args.letter c.args.body.now judged c.from.result c.in-Refused.is c.from.ensures c.refuse.ensures.value c.refuse.ensures.handle_after; upper_bound = omega (arith, c.refuse.ensures.value, number-low c.from.result) }
