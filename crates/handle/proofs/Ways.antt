@@ -123,10 +123,10 @@ module _ (xs : List ℕ) (h : Head) (len : length xs ≡ handle_size) where
       (vs, b ∙ ap (λ (n : ℕ). overlay us 43 (bytes_be 1 n)) (l ∙ byte-flag h.line.logged), (ws, c ∙ ap (λ (n : ℕ). overlay vs 44 (bytes_be 1 n)) (e ∙ byte-flag h.ended), (ys, d, (zs, f, refl))))
 
   pub head-put : {us vs zs : List ℕ} → length h.line.session ≡ 10 → us ≡ overlay xs 0 (number_bytes h)
-      → vs ≡ overlay us 32 (part h.line.session 0 10) → zs ≡ overlay vs 42 (mark_bytes h)
+      → vs ≡ overlay us 32 h.line.session → zs ≡ overlay vs 42 (mark_bytes h)
       → zs ≡ overlay xs 0 (head_bytes h)
   unfolding head_bytes number_bytes mark_bytes bytes_for digits
   head-put {us} {vs} {zs} ten a b c =
       run-joined xs 0 (piece 32 (number_bytes h)) (piece 10 h.line.session ∷ piece 5 (mark_bytes h) ∷ [])
       (refl, (ten, (refl, tt))) (omega arith) a
-      (vs, b ∙ ap (overlay us 32) (part-whole h.line.session 10 ten), (zs, c, refl))
+      (vs, b, (zs, c, refl))

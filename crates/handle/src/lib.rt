@@ -110,10 +110,8 @@ pub fn put_head(h: Head, out: &mut [u8])
     requires { length out.old ≡ handle_size }
     ensures { out.new ≡ overlay out.old 0 (head_bytes h) }
 {
-    let line = h.line;
-    let session = line.session;
     put_numbers(h, out);
-    field::copy(&session, 0, packet::SESSION_SIZE, out, SESSION);
+    field::put::<{ packet::SESSION_SIZE }>(out, SESSION, &h.line.session);
     put_marks(h, out);
 }
 

@@ -71,8 +71,8 @@ reader-there handle held h r e f g = g ∙ ap (reader_with h) f ∙ ap (λ (x : 
 
 -- laid by the code: the places first, and then the head
 pub reader-laid : (r : Reader) (h : Head) (blank first all : List ℕ) → length r.line.session ≡ 10 → length r.held ≡ held_size
-    → length blank ≡ handle_size → h ≡ head_part r → first ≡ overlay blank head_size (part r.held 0 held_size)
+    → length blank ≡ handle_size → h ≡ head_part r → first ≡ overlay blank head_size r.held
     → all ≡ overlay first 0 (head_bytes h) → all ≡ handle_bytes (head_part r) r.held
 reader-laid r h blank first all ten l m e f g =
     put-over (head_part r) blank r.held first all ten m l
-    (f ∙ ap (overlay blank head_size) (part-whole r.held held_size l)) (g ∙ ap (λ (x : Head). overlay first 0 (head_bytes x)) e)
+    f (g ∙ ap (λ (x : Head). overlay first 0 (head_bytes x)) e)

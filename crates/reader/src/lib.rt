@@ -31,7 +31,7 @@ mod told;
 pub const MOST_PACKETS: u32 = 1000;
 
 // Why a call is refused.
-#[derive(Clone, Copy)]
+#[derive(Clone, Copy, Debug, PartialEq, Eq)]
 pub enum Refusal {
     // Memory of the wrong length, a handle that breaks a limit, or an index that leads to no row in use.
     Unfit,
@@ -100,7 +100,7 @@ pub struct Stepped {
 }
 
 // Why a run stopped.
-#[derive(Clone, Copy)]
+#[derive(Clone, Copy, Debug, PartialEq, Eq)]
 pub enum Why {
     Ended,
     Refused(Refusal),
@@ -363,8 +363,7 @@ fn restored_line(h: Header) -> Line
     ensures { result ≡ line_of h }
 {
     if h.known {
-        let session = h.session;
-        return Line::waiting(session, h.next);
+        return Line::waiting(h.session, h.next);
     }
     Line::fresh()
 }
@@ -374,9 +373,8 @@ fn index_rows(verdict: Result<(), image::Refusal>, rows: usize, table: &[u8], in
     requires { verdict ≡ Ok tt → LentFitting rows (memories table.now index.old) }
     ensures { index.new ≡ index_after verdict rows table.now index.old }
 {
-    match verdict {
-        Ok(()) => index::build(index, table, rows),
-        Err(_) => {}
+    if verdict.is_ok() {
+        index::build(index, table, rows);
     }
 }
 
@@ -385,11 +383,9 @@ impl Reader {
     pub fn head(self) -> Head
         ensures { result ≡ head_part self }
     {
-        let line = self.line;
-        let board = self.board;
         Head {
-            line,
-            board,
+            line: self.line,
+            board: self.board,
             ended: self.ended,
             refusal: self.refusal,
             used: self.used,
@@ -400,11 +396,9 @@ impl Reader {
     pub fn with(head: Head, held: [u8; HELD_SIZE]) -> Reader
         ensures { result ≡ reader_with head held }
     {
-        let line = head.line;
-        let board = head.board;
         Reader {
-            line,
-            board,
+            line: head.line,
+            board: head.board,
             ended: head.ended,
             refusal: head.refusal,
             used: head.used,
@@ -417,18 +411,9 @@ impl Reader {
         ensures { Starting (memories table.old index.old) result (memories table.new index.new) }
     {
         let applied = table::start(table, index);
-        let board = applied.board;
-        let verdict = applied.verdict;
-        let reader = ready(Line::fresh(), board);
-        match verdict {
-            Ok(()) => Started {
-                reader,
-                answer: Ok(()),
-            },
-            Err(r) => Started {
-                reader,
-                answer: Err(Refusal::from(r)),
-            },
+        Started {
+            reader: ready(Line::fresh(), applied.board),
+            answer: applied.verdict.map_err(Refusal::from),
         }
     }
 
@@ -437,8 +422,7 @@ impl Reader {
         ensures { result ≡ handle_bytes (head_part self) self.held }
     {
         let mut bytes = [0u8; HANDLE_SIZE];
-        let held = self.held;
-        field::copy(&held, 0, HELD_SIZE, &mut bytes, HEAD_SIZE);
+        field::put::<HELD_SIZE>(&mut bytes, HEAD_SIZE, &self.held);
         handle::put_head(self.head(), &mut bytes);
         bytes
     }
@@ -462,13 +446,11 @@ impl Reader {
         let mut event = [0u8; RECORD_SIZE];
         let number = step(&mut handle, table, index, piece, &mut event);
         let heard = told::read_back(number, &event);
-        let answer = heard.answer;
-        let texts = heard.texts;
         Stepped {
             reader: Reader::read(&handle),
             taken: (number / told::BYTE_TAKEN) as usize,
-            answer,
-            texts,
+            answer: heard.answer,
+            texts: heard.texts,
         }
     }
 
@@ -490,25 +472,21 @@ impl Reader {
     pub fn save(self, table: &[u8], out: &mut [u8]) -> Result<usize, image::Refusal>
         ensures { Saves self table.now out.old result out.new }
     {
-        let held = self.held;
         if !limits::keep(
             self.board.rows,
             self.line.next,
             self.used,
             self.refusal,
-            &held,
+            &self.held,
             table,
         ) {
             return Err(image::Refusal::Unfit);
         }
-        let line = self.line;
-        let session = line.session;
-        let board = self.board;
         let header = Header {
-            session,
-            known: line.known,
-            next: line.next,
-            board,
+            session: self.line.session,
+            known: self.line.known,
+            next: self.line.next,
+            board: self.board,
         };
         image::save(header, table, out)
     }
@@ -524,13 +502,10 @@ impl Reader {
             };
         }
         let back = image::restore(saved, table);
-        let header = back.header;
-        let verdict = back.verdict;
-        let board = header.board;
-        index_rows(verdict, header.board.rows, table, index);
+        index_rows(back.verdict, back.header.board.rows, table, index);
         Restored {
-            reader: ready(restored_line(header), board),
-            verdict,
+            reader: ready(restored_line(back.header), back.header.board),
+            verdict: back.verdict,
         }
     }
 }

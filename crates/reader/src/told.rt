@@ -125,14 +125,12 @@ fn message(event: &[u8]) -> Heard
     ensures { read_back result ≡ beside (message_in (record_of event.now).taken (record_of event.now).texts) }
 {
     let held = record::take(event);
-    let texts = held.texts;
-    let taken = held.taken;
-    match taken {
+    match held.taken {
         Some(m) => Heard {
             answer: StepAnswer::Event(Event::Message(m)),
             texts: Texts {
                 session: [0; SESSION_SIZE],
-                message: texts,
+                message: held.texts,
             },
         },
         None => quiet(StepAnswer::More),
