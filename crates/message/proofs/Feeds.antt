@@ -13,9 +13,10 @@ use lib.Seq.{drop-cons}
 use Rattle.field.specs.Bytes.{Bytes}
 use Rattle.field.proofs.Bools.{both_left, both_right}
 use Rattle.message.specs.Layout.{Value, values, keeps_all, bytes_for, tiled, Fit}
-use Rattle.message.specs.Feed.{Letter, letter_among, length_table, length_in, Sized, fields_read, letter_read, bytes_read}
+use Rattle.message.specs.Feed.{Letter, letter_among, length_table, length_in, listed_length, Sized, fields_read, letter_read, bytes_read}
 use Rattle.message.specs.declared.Refusal.{Refusal}
 use Rattle.message.specs.declared.Refusal.TheVariants.{UnknownLetter, WrongLength, BadField}
+use Rattle.std.specs.Prelude.{Option, None, Some}
 use Rattle.message.proofs.Layouts.{read_back, written-length, written_back}
 
 -- ---- what a code finds
@@ -83,6 +84,28 @@ table-length none empty (l ∷ ls) c = by (eqb l.code c) (table-length none empt
         → cond b l.size (length_in (length_table ls) c) ≡ (cond b l (letter_among none ls c)).size
     by true e = refl
     by false e = e
+
+-- the length that a letter is listed with, or none
+module _ {Rec : Type 0} (l : Letter Rec) where
+  pub unlisted_length : {n : ℕ} → n ≡ l.size → n ≡ 0 → None ≡ listed_length l
+  unlisted_length e z = rw (eq-eqb l.size 0 (sym e ∙ z))
+
+  pub own-length : {n : ℕ} → n ≡ l.size → (n ≡ 0 → ⊥) → Some n ≡ listed_length l
+  own-length {n} e h = rw (← e, ne_eqb n 0 h)
+
+  pub has-length : {x : Option ℕ} {n : ℕ} → x ≡ listed_length l → x ≡ Some n → (n ≡ l.size) × (n ≡ 0 → ⊥)
+  has-length {n = n} p q = by (eqb l.size 0) refl (sym q ∙ p)
+    where
+      by : (b : Bool) → eqb l.size 0 ≡ b → Some n ≡ cond b None (Some l.size) → (n ≡ l.size) × (n ≡ 0 → ⊥)
+      by true e s = let z : ◌≡◌ {A = ℕ} 0 1 = cc in absurd (omega arith)
+      by false e s = let i : n ≡ l.size = cc in (i, λ z. eqb-false l.size 0 e (sym i ∙ z))
+
+  pub has-none : {x : Option ℕ} → x ≡ listed_length l → x ≡ None → l.size ≡ 0
+  has-none p q = by (eqb l.size 0) refl (sym q ∙ p)
+    where
+      by : (b : Bool) → eqb l.size 0 ≡ b → None ≡ cond b None (Some l.size) → l.size ≡ 0
+      by true e s = eqb-true l.size 0 e
+      by false e s = let z : ◌≡◌ {A = ℕ} 0 1 = cc in absurd (omega arith)
 
 none_left : (xs : List ℕ) (c : ℕ) → length xs ≤ 1 → length_in xs c ≡ 0
 unfolding length_in

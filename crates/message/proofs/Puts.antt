@@ -88,8 +88,7 @@ pub text-put : (xs ys : List ℕ) (at n : ℕ) {zs : List ℕ} → length ys ≡
 text-put xs ys at n e p = p ∙ ap (overlay xs at) (part-whole ys n e)
 
 -- three marks of a byte each, side by side
-pub three-marks : (a b c : ℕ) → a < 256 → b < 256 → c < 256 → part (a ∷ b ∷ c ∷ []) 0 3 ≡ bytes_be 1 a ++ (bytes_be 1 b ++ bytes_be 1 c)
-unfolding part
+pub three-marks : (a b c : ℕ) → a < 256 → b < 256 → c < 256 → a ∷ b ∷ c ∷ [] ≡ bytes_be 1 a ++ (bytes_be 1 b ++ bytes_be 1 c)
 three-marks a b c p q r = rw (byte a p, byte b q, byte c r)
 
 abbrev date_bytes : Instrument → List ℕ
@@ -113,7 +112,7 @@ unfolding digits
 market-length m t l k = rw (length-append, l, k)
 
 pub terms-put : (xs : List ℕ) (m : Instrument) (t : Texts) {us vs ws zs : List ℕ} → m.year < 256 → m.month < 256 → m.day < 256 → length t.symbol ≡ 8 → 20 ≤ length xs
-    → us ≡ overlay xs 4 t.symbol → vs ≡ overlay us 12 (part (m.year ∷ m.month ∷ m.day ∷ []) 0 3) → ws ≡ overlay vs 15 (bytes_be 4 m.strike) → zs ≡ overlay ws 19 (bytes_be 1 m.kind)
+    → us ≡ overlay xs 4 t.symbol → vs ≡ overlay us 12 (m.year ∷ m.month ∷ m.day ∷ []) → ws ≡ overlay vs 15 (bytes_be 4 m.strike) → zs ≡ overlay ws 19 (bytes_be 1 m.kind)
     → zs ≡ overlay xs 4 (terms_bytes m t)
 unfolding digits
 terms-put xs m t {us} {vs} {ws} {zs} y o d l h e f g i =
@@ -121,7 +120,7 @@ terms-put xs m t {us} {vs} {ws} {zs} y o d l h e f g i =
     (l, (refl, (refl, (refl, tt)))) h e (vs, f ∙ ap (overlay us 12) (three-marks m.year m.month m.day y o d), (ws, g, (zs, i, refl)))
 
 pub market-put : (xs : List ℕ) (m : Instrument) (t : Texts) {us vs zs : List ℕ} → m.closing < 256 → m.tradable < 256 → m.variation < 256 → length t.underlying ≡ 13
-    → length t.reserved ≡ 16 → entry_size ≤ length xs → us ≡ overlay xs 20 t.underlying → vs ≡ overlay us 33 (part (m.closing ∷ m.tradable ∷ m.variation ∷ []) 0 3) → zs ≡ overlay vs 36 t.reserved
+    → length t.reserved ≡ 16 → entry_size ≤ length xs → us ≡ overlay xs 20 t.underlying → vs ≡ overlay us 33 (m.closing ∷ m.tradable ∷ m.variation ∷ []) → zs ≡ overlay vs 36 t.reserved
     → zs ≡ overlay xs 20 (market_bytes m t)
 unfolding digits
 market-put xs m t {us} {vs} {zs} a b d l k h e f g =

@@ -15,10 +15,15 @@ use Rattle.message.specs.Layout.{Value, number_at, values, keeps_all}
 use Rattle.message.specs.Letters.{Content, unlisted, letters, letter_in, listed, conditions, event_codes, option_types, closings, tradables, variations, states, entry_rows, entry_size, end_of_replay_rows, end_of_replay_of, short_quote_rows, long_quote_rows, short_side_rows, long_side_rows}
 use Rattle.message.specs.declared.EndOfReplay.{EndOfReplay}
 use Rattle.message.specs.Message.{read_as, read_of}
-use Rattle.message.specs.Feed.{Letter, Sized, letter_among, fields_read, letter_read, bytes_read}
-use Rattle.message.specs.Test.{tested, quote_letters, quote_length, prices_keep, entry_keeps}
+use Rattle.message.specs.Feed.{Letter, Sized, listed_length, letter_among, fields_read, letter_read, bytes_read}
+use Rattle.message.specs.Test.{tested_as, tested, checked_as, checked, number_in, quote_letters, quote_length, prices_keep, entry_keeps}
+use Rattle.message.specs.declared.Reading.{Reading}
+use Rattle.message.specs.declared.Message.{Message}
+use Rattle.message.specs.declared.Refusal.{Refusal}
+use Rattle.message.specs.declared.Refusal.TheVariants.{UnknownLetter, WrongLength, BadField}
+use Rattle.std.specs.Prelude.{Result, Ok, Err, Option, Some, None}
 use Rattle.message.proofs.Layouts.{read-as-numbers, rows_in, values-in-part}
-use Rattle.message.proofs.Feeds.{found}
+use Rattle.message.proofs.Feeds.{found, unlisted_length, has-length, has-none}
 use Rattle.message.proofs.Table.{room}
 use Rattle.message.proofs.Ways.{entry-values}
 
@@ -29,25 +34,26 @@ a also b = (a, b)
 -- ---- any letter
 
 module _ (l : Letter Content) (bs : List ℕ) where
-  unknown : l.size ≡ 0 → 10 ≡ tested (read_as l bs)
+  unknown : l.size ≡ 0 → Err UnknownLetter ≡ checked (read_as l bs)
   unfolding read_as letter_read
   unknown e = rw (eq-eqb l.size 0 e)
 
-  long : (l.size ≡ 0 → ⊥) → (length bs ≡ l.size → ⊥) → 11 ≡ tested (read_as l bs)
+  long : (l.size ≡ 0 → ⊥) → (length bs ≡ l.size → ⊥) → Err WrongLength ≡ checked (read_as l bs)
   unfolding read_as letter_read
   long h e = rw (ne_eqb l.size 0 h, ne_eqb (length bs) l.size e)
 
-  judged : (ok : Bool) → Sized l bs → keeps_all l.rows (values l.rows bs) ≡ ok → cond ok 0 12 ≡ tested (read_as l bs)
+  judged : (ok : Bool) → Sized l bs → keeps_all l.rows (values l.rows bs) ≡ ok → cond ok (Ok (tt {0})) (Err BadField) ≡ checked (read_as l bs)
   unfolding read_as letter_read fields_read
   judged true s k = rw (ne_eqb l.size 0 s.is_listed, eq-eqb (length bs) l.size s.is_long, k)
   judged false s k = rw (ne_eqb l.size 0 s.is_listed, eq-eqb (length bs) l.size s.is_long, k)
 
 -- ---- the six letters of quotes
 
-pub quote-none : (c : ℕ) → (c ≡ 113 → ⊥) → (c ≡ 81 → ⊥) → (c ≡ 98 → ⊥) → (c ≡ 97 → ⊥) → (c ≡ 66 → ⊥) → (c ≡ 65 → ⊥) → 0 ≡ quote_length c
-unfolding quote_length quote_letters
+pub quote-none : (c : ℕ) → (c ≡ 113 → ⊥) → (c ≡ 81 → ⊥) → (c ≡ 98 → ⊥) → (c ≡ 97 → ⊥) → (c ≡ 66 → ⊥) → (c ≡ 65 → ⊥)
+    → None ≡ listed_length (letter_in quote_letters c)
+unfolding quote_letters
 quote-none c n1 n2 n3 n4 n5 n6 =
-    found unlisted (λ (l : Letter Content). 0 ≡ l.size) c quote_letters refl
+    found unlisted (λ (l : Letter Content). None ≡ listed_length l) c quote_letters refl
     ((λ e. absurd (n1 (sym e)))
     also (λ e. absurd (n2 (sym e)))
     also (λ e. absurd (n3 (sym e)))
@@ -56,8 +62,18 @@ quote-none c n1 n2 n3 n4 n5 n6 =
     also (λ e. absurd (n6 (sym e)))
     also tt)
 
-pub quote-arm : (k n c : ℕ) → c ≡ k → n ≡ quote_length k → n ≡ quote_length c
+pub quote-arm : (k n c : ℕ) → c ≡ k → Some n ≡ listed_length (letter_in quote_letters k) → Some n ≡ listed_length (letter_in quote_letters c)
 quote-arm k n c e p = rw e p
+
+-- a letter is a quote's, with its length, or it is none
+module _ (c : ℕ) {x : Option ℕ} (p : x ≡ listed_length (letter_in quote_letters c)) where
+  pub is-quote : {n : ℕ} → x ≡ Some n → (n ≡ quote_length c) × (n ≡ 0 → ⊥)
+  unfolding quote_length
+  is-quote q = has-length (letter_in quote_letters c) p q
+
+  pub no-quote : x ≡ None → quote_length c ≡ 0
+  unfolding quote_length
+  no-quote q = has-none (letter_in quote_letters c) p q
 
 -- what each of them is: a letter of the feed, with room for its prices, and three rules
 pub record Quotes (bs : List ℕ) (c : ℕ) (l : Letter Content) : Type 0 where
@@ -125,48 +141,48 @@ module _ (c size : ℕ) (bs : List ℕ) (is : size ≡ quote_length c) (some : s
   pub quote-sized : length bs ≡ size → (quote_length c ≡ 0 → ⊥) × (length bs ≡ quote_length c)
   quote-sized e = (some-length, e ∙ is)
 
-  pub quote-long : (length bs ≡ size → ⊥) → 11 ≡ tested (read_as (letter_in letters c) bs)
+  pub quote-long : (length bs ≡ size → ⊥) → Err WrongLength ≡ checked (read_as (letter_in letters c) bs)
   quote-long h = long (letter_in letters c) bs (λ e. some (own-size ∙ e)) (λ e. h (e ∙ sym own-size))
 
   ruled : length bs ≡ size → (ok : Bool) → time_in_range (be (part bs 3 8)) && (listed conditions (be (part bs 15 1)) && prices_keep c bs) ≡ ok
-      → cond ok 0 12 ≡ tested (read_as (letter_in letters c) bs)
+      → cond ok (Ok (tt {0})) (Err BadField) ≡ checked (read_as (letter_in letters c) bs)
   ruled e ok k =
       judged (letter_in letters c) bs ok (record { is_listed = λ z. some (own-size ∙ z); is_long = e ∙ own-size })
       (ap (λ (l : Letter Content). keeps_all l.rows (values l.rows bs)) (quotes bs c some-length).own ∙ (quotes bs c some-length).rules ∙ k)
 
   module _ (e : length bs ≡ size) {a : Bool} (p : a ≡ time_in_range (be (part bs 3 8))) where
-    pub quote-time : not a ≡ true → 12 ≡ tested (read_as (letter_in letters c) bs)
+    pub quote-time : not a ≡ true → Err BadField ≡ checked (read_as (letter_in letters c) bs)
     quote-time n = ruled e false (rw (← p, not-true a n))
 
     module _ {v : ℕ} {b : Bool} (i : v ≡ be (part bs 15 1)) (q : b ≡ listed conditions v) (y : not a ≡ false) where
-      pub quote-condition : not b ≡ true → 12 ≡ tested (read_as (letter_in letters c) bs)
+      pub quote-condition : not b ≡ true → Err BadField ≡ checked (read_as (letter_in letters c) bs)
       quote-condition n = ruled e false (rw (← p, not-false a y, ← i, ← q, not-true b n))
 
-      pub quote-prices : {d : Bool} → not b ≡ false → d ≡ prices_keep c bs → not d ≡ true → 12 ≡ tested (read_as (letter_in letters c) bs)
+      pub quote-prices : {d : Bool} → not b ≡ false → d ≡ prices_keep c bs → not d ≡ true → Err BadField ≡ checked (read_as (letter_in letters c) bs)
       quote-prices {d} z r n = ruled e false (rw (← p, not-false a y, ← i, ← q, not-false b z, ← r, not-true d n))
 
-      pub quote-kept : {d : Bool} → not b ≡ false → d ≡ prices_keep c bs → not d ≡ false → 0 ≡ tested (read_as (letter_in letters c) bs)
+      pub quote-kept : {d : Bool} → not b ≡ false → d ≡ prices_keep c bs → not d ≡ false → Ok (tt {0}) ≡ checked (read_as (letter_in letters c) bs)
       quote-kept {d} z r n = ruled e true (rw (← p, not-false a y, ← i, ← q, not-false b z, ← r, not-false d n))
 
 -- ---- the other letters
 
 module _ (c size : ℕ) (bs : List ℕ) (is : size ≡ (letter_in letters c).size) where
-  pub rare-unknown : size ≡ 0 → 10 ≡ tested (read_as (letter_in letters c) bs)
+  pub rare-unknown : size ≡ 0 → Err UnknownLetter ≡ checked (read_as (letter_in letters c) bs)
   rare-unknown e = unknown (letter_in letters c) bs (sym is ∙ e)
 
   module _ (some : size ≡ 0 → ⊥) where
-    pub rare-long : (length bs ≡ size → ⊥) → 11 ≡ tested (read_as (letter_in letters c) bs)
+    pub rare-long : (length bs ≡ size → ⊥) → Err WrongLength ≡ checked (read_as (letter_in letters c) bs)
     rare-long h = long (letter_in letters c) bs (λ e. some (is ∙ e)) (λ e. h (e ∙ sym is))
 
     pub rare-sized : length bs ≡ size → Sized (letter_in letters c) bs
     rare-sized e = record { is_listed = λ z. some (is ∙ z); is_long = e ∙ is }
 
     pub rare-kept : {ok : Bool} → length bs ≡ size → ok ≡ keeps_all (letter_in letters c).rows (values (letter_in letters c).rows bs) → ok ≡ true
-        → 0 ≡ tested (read_as (letter_in letters c) bs)
+        → Ok (tt {0}) ≡ checked (read_as (letter_in letters c) bs)
     rare-kept e k y = judged (letter_in letters c) bs true (rare-sized e) (sym k ∙ y)
 
     pub rare-broken : {ok : Bool} → length bs ≡ size → ok ≡ keeps_all (letter_in letters c).rows (values (letter_in letters c).rows bs) → ok ≡ false
-        → 12 ≡ tested (read_as (letter_in letters c) bs)
+        → Err BadField ≡ checked (read_as (letter_in letters c) bs)
     rare-broken e k y = judged (letter_in letters c) bs false (rare-sized e) (sym k ∙ y)
 
 -- a listed code that is no quote's and none of the other three is M
@@ -190,14 +206,14 @@ rare-last c n1 n2 n3 q =
     no z = absurd (omega arith)
 
 -- their lengths
-pub rare-size : (k : ℕ) {c : ℕ} → c ≡ k → (letter_in letters k).size ≡ (letter_in letters c).size
-rare-size k e = ap (λ (x : ℕ). (letter_in letters x).size) (sym e)
+pub rare-size : (k : ℕ) {c : ℕ} → c ≡ k → listed_length (letter_in letters k) ≡ listed_length (letter_in letters c)
+rare-size k e = ap (λ (x : ℕ). listed_length (letter_in letters x)) (sym e)
 
-pub rare-none : (c : ℕ) → (c ≡ 83 → ⊥) → (c ≡ 109 → ⊥) → (c ≡ 72 → ⊥) → (c ≡ 77 → ⊥) → quote_length c ≡ 0 → 0 ≡ (letter_in letters c).size
-rare-none c n1 n2 n3 n4 q = by (ℕ_discrete (letter_in letters c).size 0)
+pub rare-none : (c : ℕ) → (c ≡ 83 → ⊥) → (c ≡ 109 → ⊥) → (c ≡ 72 → ⊥) → (c ≡ 77 → ⊥) → quote_length c ≡ 0 → None ≡ listed_length (letter_in letters c)
+rare-none c n1 n2 n3 n4 q = unlisted_length (letter_in letters c) refl (by (ℕ_discrete (letter_in letters c).size 0))
   where
-    by : Dec ((letter_in letters c).size ≡ 0) → 0 ≡ (letter_in letters c).size
-    by (yes e) = sym e
+    by : Dec ((letter_in letters c).size ≡ 0) → (letter_in letters c).size ≡ 0
+    by (yes e) = e
     by (no n) = absurd (n4 (rare-last c n1 n2 n3 q n))
 
 -- the fields of each, where they lie
@@ -260,7 +276,13 @@ unfolding read_of read_as bytes_read
 test-empty [] e = refl
 test-empty (c ∷ bs) e = absurd (omega arith)
 
-pub test-some : (bs : List ℕ) {r : ℕ} → (length bs ≡ 0 → ⊥) → r ≡ tested (read_as (letter_in letters (get_or bs 0 0)) bs) → r ≡ tested (read_of bs)
+-- the number of an answer is the number of the test
+pub number-tested-as : (a : Result Message Refusal) → number_in (checked_as a) ≡ tested_as a
+number-tested-as (Ok m) = refl
+number-tested-as (Err r) = refl
+
+pub test-some : (bs : List ℕ) {r : Result (Unit {0}) Refusal} {n : ℕ} → (length bs ≡ 0 → ⊥) → n ≡ number_in r
+    → r ≡ checked (read_as (letter_in letters (get_or bs 0 0)) bs) → n ≡ tested (read_of bs)
 unfolding read_of read_as bytes_read
-test-some [] h p = absurd (h refl)
-test-some (c ∷ bs) h p = p
+test-some [] h q p = absurd (h refl)
+test-some (c ∷ bs) h q p = q ∙ ap number_in p ∙ number-tested-as (read_as (letter_in letters c) (c ∷ bs)).answer

@@ -1,7 +1,7 @@
 -- A feed as data: a list of letters, each with its exact length, its layout and the record that its fields make; and what a feed's bytes
 -- say. Another feed is another list.
 -- Assumes nothing.
-use Rattle.std.specs.Prelude.{ℕ, ◌≡◌, cond, List, [], ◌∷◌, eqb, length}
+use Rattle.std.specs.Prelude.{ℕ, ◌≡◌, cond, List, [], ◌∷◌, eqb, length, Option, None, Some}
 use Rattle.message.specs.Layout.{Value, Row, values, keeps_all}
 use Rattle.message.specs.declared.Refusal.{Refusal}
 use Rattle.message.specs.declared.Refusal.TheVariants.{UnknownLetter, WrongLength, BadField}
@@ -27,6 +27,10 @@ unfoldable pub length_in : List ℕ → ℕ → ℕ
 length_in [] c = 0
 length_in (x ∷ []) c = 0
 length_in (x ∷ n ∷ xs) c = cond (eqb x c) n (length_in xs c)
+
+-- the length of a listed letter; none for one that is not listed
+abbrev pub listed_length : {Rec : Type 0} → Letter Rec → Option ℕ
+listed_length l = cond (eqb l.size 0) None (Some l.size)
 
 -- bytes of the length that a listed letter has
 pub record Sized {Rec : Type 0} (l : Letter Rec) (bs : List ℕ) : Type 0 where

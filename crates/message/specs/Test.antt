@@ -23,6 +23,18 @@ tested_as (Err r) = refusal_number r
 abbrev pub tested : Reading → ℕ
 tested r = tested_as r.answer
 
+-- that a reading is a message, or its refusal
+abbrev pub checked_as : Result Message Refusal → Result (Unit {0}) Refusal
+checked_as (Ok m) = Ok (tt {0})
+checked_as (Err r) = Err r
+
+abbrev pub checked : Reading → Result (Unit {0}) Refusal
+checked r = checked_as r.answer
+
+abbrev pub number_in : Result (Unit {0}) Refusal → ℕ
+number_in (Ok u) = 0
+number_in (Err r) = refusal_number r
+
 unfoldable pub quote_letters : List (Letter Content)
 quote_letters =
     short_quote_letter ∷ long_quote_letter ∷ short_side_letter Bid ∷ short_side_letter Ask ∷ long_side_letter Bid ∷ long_side_letter Ask ∷ []

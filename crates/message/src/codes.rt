@@ -1,16 +1,14 @@
-// The one-letter codes of the feed.
+// The one-letter codes of the feed: a function for each list, whose clause names the list of the definitions, and one that looks a code up.
 ghost use Rattle.std.specs.Prelude.{◌≡◌};
 ghost use Rattle.message.specs.Letters.{listed, event_codes, option_types, closings, tradables, variations, states, conditions};
 
 pub fn is_listed(code: u8, list: &[u8]) -> bool
     ensures { result ≡ listed list.now code }
 {
-    let mut i = 0;
-    while i < list.len() {
-        if list[i] == code {
+    for c in list {
+        if *c == code {
             return true;
         }
-        i += 1;
     }
     false
 }

@@ -30,16 +30,10 @@ pub fn texts(entry: &[u8]) -> Texts
     requires { entry_size ≤ length entry.now }
     ensures { result ≡ texts_of (values entry_rows entry.now) }
 {
-    let mut symbol = [0; 8];
-    field::copy(entry, 4, 8, &mut symbol, 0);
-    let mut underlying = [0; 13];
-    field::copy(entry, 20, 13, &mut underlying, 0);
-    let mut reserved = [0; 16];
-    field::copy(entry, 36, 16, &mut reserved, 0);
     Texts {
-        symbol,
-        underlying,
-        reserved,
+        symbol: field::bytes::<8>(entry, 4),
+        underlying: field::bytes::<13>(entry, 20),
+        reserved: field::bytes::<16>(entry, 36),
     }
 }
 
@@ -52,15 +46,13 @@ fn is_within(low: u8, high: u8, v: u8) -> bool
 fn is_symbol(t: Texts) -> bool
     ensures { result ≡ is_text t.symbol }
 {
-    let symbol = t.symbol;
-    text::is_text(&symbol, 0, 8)
+    text::is_text(&t.symbol, 0, 8)
 }
 
 fn is_underlying(t: Texts) -> bool
     ensures { result ≡ is_text t.underlying }
 {
-    let underlying = t.underlying;
-    text::is_text(&underlying, 0, 13)
+    text::is_text(&t.underlying, 0, 13)
 }
 
 pub fn keep(m: Instrument, t: Texts) -> bool
@@ -78,30 +70,6 @@ pub fn keep(m: Instrument, t: Texts) -> bool
                                         & codes::is_variation(m.variation)))))))))
 }
 
-fn symbol(out: &mut [u8], t: Texts)
-    requires { 12 ≤ length out.old }
-    ensures { out.new ≡ overlay out.old 4 t.symbol }
-{
-    let symbol = t.symbol;
-    field::copy(&symbol, 0, 8, out, 4);
-}
-
-fn underlying(out: &mut [u8], t: Texts)
-    requires { 33 ≤ length out.old }
-    ensures { out.new ≡ overlay out.old 20 t.underlying }
-{
-    let underlying = t.underlying;
-    field::copy(&underlying, 0, 13, out, 20);
-}
-
-fn reserved(out: &mut [u8], t: Texts)
-    requires { entry_size ≤ length out.old }
-    ensures { out.new ≡ overlay out.old 36 t.reserved }
-{
-    let reserved = t.reserved;
-    field::copy(&reserved, 0, 16, out, 36);
-}
-
 // The fields that may not change: symbol, date, strike and type.
 fn terms(out: &mut [u8], m: Instrument, t: Texts)
     requires { 20 ≤ length out.old }
@@ -111,9 +79,8 @@ fn terms(out: &mut [u8], m: Instrument, t: Texts)
         ++ ((bytes_be 1 m.year ++ (bytes_be 1 m.month ++ bytes_be 1 m.day))
         ++ (bytes_be 4 m.strike ++ bytes_be 1 m.kind))) }
 {
-    let date = [m.year, m.month, m.day];
-    symbol(out, t);
-    field::copy(&date, 0, 3, out, 12);
+    field::put(out, 4, &t.symbol);
+    field::put(out, 12, &[m.year, m.month, m.day]);
     field::write::<u32>(out, 15, m.strike);
     field::write::<u8>(out, 19, m.kind);
 }
@@ -126,10 +93,9 @@ fn market(out: &mut [u8], m: Instrument, t: Texts)
         (t.underlying
         ++ ((bytes_be 1 m.closing ++ (bytes_be 1 m.tradable ++ bytes_be 1 m.variation)) ++ t.reserved)) }
 {
-    let marks = [m.closing, m.tradable, m.variation];
-    underlying(out, t);
-    field::copy(&marks, 0, 3, out, 33);
-    reserved(out, t);
+    field::put(out, 20, &t.underlying);
+    field::put(out, 33, &[m.closing, m.tradable, m.variation]);
+    field::put(out, 36, &t.reserved);
 }
 
 pub fn put(out: &mut [u8], m: Instrument, t: Texts)

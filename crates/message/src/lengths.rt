@@ -1,6 +1,6 @@
 // The letters of the feed, each with its exact length: one list, for reading and writing.
 ghost use Rattle.std.specs.Prelude.{◌≡◌};
-ghost use Rattle.message.specs.Feed.{length_in};
+ghost use Rattle.message.specs.Feed.{length_in, listed_length};
 ghost use Rattle.message.specs.Letters.{letters, letter_in, letter_for};
 
 use crate::Message;
@@ -22,7 +22,7 @@ pub const LONG_SIDE: usize = 36;
 
 pub const END_OF_REPLAY: usize = 21;
 
-// Letters and lengths, by turns.
+// Letters and lengths, by turns: the list that `Feed.length_table` makes of the ten letters, as the theorem `Feeds.table-length` has it.
 pub const LENGTHS: [u8; 20] = [
     b'S',
     SYSTEM_EVENT as u8,
@@ -46,24 +46,26 @@ pub const LENGTHS: [u8; 20] = [
     END_OF_REPLAY as u8,
 ];
 
-// What a table of letters and lengths, by turns, gives for a letter; 0 for one that is not listed.
+// What a table of letters and lengths, by turns, gives for a letter; 0 for one that is not listed, as the definition `Feed.length_in` says of any bytes.
 pub fn length_in(table: &[u8], letter: u8) -> usize
     ensures { result ≡ length_in table.now letter }
 {
-    let mut i = 0;
-    while i + 1 < table.len() {
-        if table[i] == letter {
-            return table[i + 1] as usize;
+    for i in 0..table.len() / 2 {
+        if table[2 * i] == letter {
+            return table[2 * i + 1] as usize;
         }
-        i += 2;
     }
     0
 }
 
-pub fn length_of(letter: u8) -> usize
-    ensures { result ≡ (letter_in letters letter).size }
+// The length of a letter of the feed; none for one that is not listed.
+pub fn length_of(letter: u8) -> Option<usize>
+    ensures { result ≡ listed_length (letter_in letters letter) }
 {
-    length_in(&LENGTHS, letter)
+    match length_in(&LENGTHS, letter) {
+        0 => None,
+        size => Some(size),
+    }
 }
 
 pub fn length_for(message: Message) -> usize

@@ -164,22 +164,26 @@ pub enum WriteRefusal {
     ShortOutput,
 }
 
-pub fn refusal_number(r: Refusal) -> u8
-    ensures { result ≡ refusal_number r }
-{
-    match r {
-        Refusal::UnknownLetter => 10,
-        Refusal::WrongLength => 11,
-        Refusal::BadField => 12,
+impl From<Refusal> for u8 {
+    ghost from_gives = { λ r n. n ≡ refusal_number r };
+
+    fn from(r: Refusal) -> u8 {
+        match r {
+            Refusal::UnknownLetter => 10,
+            Refusal::WrongLength => 11,
+            Refusal::BadField => 12,
+        }
     }
 }
 
-pub fn write_refusal_number(r: WriteRefusal) -> u8
-    ensures { result ≡ write_refusal_number r }
-{
-    match r {
-        WriteRefusal::BrokenRecord => 26,
-        WriteRefusal::ShortOutput => 25,
+impl From<WriteRefusal> for u8 {
+    ghost from_gives = { λ r n. n ≡ write_refusal_number r };
+
+    fn from(r: WriteRefusal) -> u8 {
+        match r {
+            WriteRefusal::BrokenRecord => 26,
+            WriteRefusal::ShortOutput => 25,
+        }
     }
 }
 
@@ -209,10 +213,9 @@ pub fn read(bytes: &[u8]) -> Reading
         return refuse(Refusal::UnknownLetter);
     }
     let letter = bytes[0];
-    let size = lengths::length_of(letter);
-    if size == 0 {
+    let Some(size) = lengths::length_of(letter) else {
         return refuse(Refusal::UnknownLetter);
-    }
+    };
     if bytes.len() != size {
         return refuse(Refusal::WrongLength);
     }

@@ -1,12 +1,12 @@
-// Bytes tested where they lie: 0 for a message, or the number of the refusal.
+// Bytes tested where they lie.
 ghost use Rattle.std.specs.Prelude.{◌≡◌, ◌≤◌, length};
 ghost use Rattle.message.specs.Layout.{values, keeps_all};
 ghost use Rattle.message.specs.Letters.{letters, letter_in, end_of_replay_rows, end_of_replay_of};
-ghost use Rattle.message.specs.Feed.{Sized};
+ghost use Rattle.message.specs.Feed.{Sized, listed_length};
 ghost use Rattle.message.specs.Message.{read_as, read_of};
-ghost use Rattle.message.specs.Test.{tested, quote_length, prices_keep};
+ghost use Rattle.message.specs.Test.{tested, checked, number_in, quote_letters, quote_length, prices_keep};
 
-use crate::{codes, entry, lengths, take};
+use crate::{Refusal, codes, entry, lengths, take};
 use field::limits;
 
 // The number of an M, 0 where its characters write none.
@@ -17,18 +17,18 @@ pub fn number(bytes: &[u8]) -> u64
     take::end_of_replay(&bytes[0..21]).number
 }
 
-// The length of a quote's letter, 0 for any other letter.
-pub fn quote_length(letter: u8) -> usize
-    ensures { result ≡ quote_length letter }
+// The length of a quote's letter; none for any other letter.
+pub fn quote_length(letter: u8) -> Option<usize>
+    ensures { result ≡ listed_length (letter_in quote_letters letter) }
 {
     match letter {
-        b'q' => lengths::SHORT_QUOTE,
-        b'Q' => lengths::LONG_QUOTE,
-        b'b' => lengths::SHORT_SIDE,
-        b'a' => lengths::SHORT_SIDE,
-        b'B' => lengths::LONG_SIDE,
-        b'A' => lengths::LONG_SIDE,
-        _ => 0,
+        b'q' => Some(lengths::SHORT_QUOTE),
+        b'Q' => Some(lengths::LONG_QUOTE),
+        b'b' => Some(lengths::SHORT_SIDE),
+        b'a' => Some(lengths::SHORT_SIDE),
+        b'B' => Some(lengths::LONG_SIDE),
+        b'A' => Some(lengths::LONG_SIDE),
+        _ => None,
     }
 }
 
@@ -50,23 +50,23 @@ fn prices_keep(letter: u8, bytes: &[u8]) -> bool
 }
 
 // Bytes with the letter of a quote, whose length is `size`. It is small, and compiles into its callers.
-pub fn quote(letter: u8, size: usize, bytes: &[u8]) -> u32
+pub fn quote(letter: u8, size: usize, bytes: &[u8]) -> Result<(), Refusal>
     requires { (size ≡ quote_length letter) × (size ≡ 0 → ⊥) }
-    ensures { result ≡ tested (read_as (letter_in letters letter) bytes.now) }
+    ensures { result ≡ checked (read_as (letter_in letters letter) bytes.now) }
 {
     if bytes.len() != size {
-        return 11;
+        return Err(Refusal::WrongLength);
     }
     if !limits::time_keeps(bytes, 3) {
-        return 12;
+        return Err(Refusal::BadField);
     }
     if !codes::is_condition(field::read::<u8>(bytes, 15)) {
-        return 12;
+        return Err(Refusal::BadField);
     }
     if !prices_keep(letter, bytes) {
-        return 12;
+        return Err(Refusal::BadField);
     }
-    0
+    Ok(())
 }
 
 // Bytes of the right length whose letter is no quote's.
@@ -82,40 +82,50 @@ fn fields_keep(letter: u8, bytes: &[u8]) -> bool
     }
 }
 
-// The length of a letter that is no quote's, 0 for one that is not listed.
-fn rare_length(letter: u8) -> usize
+// The length of a letter that is no quote's; none for one that is not listed.
+fn rare_length(letter: u8) -> Option<usize>
     requires { quote_length letter ≡ 0 }
-    ensures { result ≡ (letter_in letters letter).size }
+    ensures { result ≡ listed_length (letter_in letters letter) }
 {
     match letter {
-        b'S' => lengths::SYSTEM_EVENT,
-        b'm' => lengths::DIRECTORY,
-        b'H' => lengths::TRADING_ACTION,
-        b'M' => lengths::END_OF_REPLAY,
-        _ => 0,
+        b'S' => Some(lengths::SYSTEM_EVENT),
+        b'm' => Some(lengths::DIRECTORY),
+        b'H' => Some(lengths::TRADING_ACTION),
+        b'M' => Some(lengths::END_OF_REPLAY),
+        _ => None,
     }
 }
 
 // Bytes whose letter is no quote's. They are taken as a part of themselves, so that their place and length are handed over in registers.
-pub fn rarer(letter: u8, bytes: &[u8]) -> u32
+pub fn rarer(letter: u8, bytes: &[u8]) -> Result<(), Refusal>
     requires { quote_length letter ≡ 0 }
-    ensures { result ≡ tested (read_as (letter_in letters letter) bytes.now) }
+    ensures { result ≡ checked (read_as (letter_in letters letter) bytes.now) }
 {
     let whole = &bytes[..];
-    let size = rare_length(letter);
-    if size == 0 {
-        return 10;
-    }
+    let Some(size) = rare_length(letter) else {
+        return Err(Refusal::UnknownLetter);
+    };
     if whole.len() != size {
-        return 11;
+        return Err(Refusal::WrongLength);
     }
     if fields_keep(letter, whole) {
-        return 0;
+        return Ok(());
     }
-    12
+    Err(Refusal::BadField)
 }
 
-// The test of any bytes.
+// 0 for bytes that pass, or the number of the refusal.
+fn number_of(r: Result<(), Refusal>) -> u32
+    ensures { result ≡ number_in r }
+{
+    match r {
+        Ok(()) => 0,
+        Err(r) => u8::from(r) as u32,
+    }
+}
+
+// The test of any bytes: 0 for a message, or the number of the refusal.
+// A Result here costs a record's reading an instruction: what this answers is the number that `nelqubat_read` gives to C.
 pub fn message(bytes: &[u8]) -> u32
     ensures { result ≡ tested (read_of bytes.now) }
 {
@@ -123,9 +133,8 @@ pub fn message(bytes: &[u8]) -> u32
         return 10;
     }
     let letter = bytes[0];
-    let size = quote_length(letter);
-    if size == 0 {
-        return rarer(letter, bytes);
+    match quote_length(letter) {
+        Some(size) => number_of(quote(letter, size, bytes)),
+        None => number_of(rarer(letter, bytes)),
     }
-    quote(letter, size, bytes)
 }

@@ -61,7 +61,7 @@ pub fn take(bytes: &[u8]) -> Held
         return none();
     }
     let letter = bytes[0];
-    if message::lengths::length_of(letter) == 0 {
+    if message::lengths::length_of(letter).is_none() {
         return none();
     }
     if !back::is_own(letter, bytes) {
@@ -93,10 +93,9 @@ pub fn write(record: &[u8], out: &mut [u8]) -> u32
         return 20;
     }
     let letter = record[0];
-    let size = message::lengths::length_of(letter);
-    if size == 0 {
+    let Some(size) = message::lengths::length_of(letter) else {
         return NO_RECORD;
-    }
+    };
     if !back::keep(letter, record) {
         return NO_RECORD;
     }

@@ -73,16 +73,10 @@ fn texts(bytes: &[u8]) -> Texts
     requires { record_size ≤ length bytes.now }
     ensures { result ≡ texts_of (values instrument_places bytes.now) }
 {
-    let mut symbol = [0; 8];
-    field::copy(bytes, 75, 8, &mut symbol, 0);
-    let mut underlying = [0; 13];
-    field::copy(bytes, 83, 13, &mut underlying, 0);
-    let mut reserved = [0; 16];
-    field::copy(bytes, 96, 16, &mut reserved, 0);
     Texts {
-        symbol,
-        underlying,
-        reserved,
+        symbol: field::bytes::<8>(bytes, 75),
+        underlying: field::bytes::<13>(bytes, 83),
+        reserved: field::bytes::<16>(bytes, 96),
     }
 }
 

@@ -6,8 +6,8 @@ use Rattle.message.proofs.read.Goals as goal
 pub returns-then-bytes-eq0 : goal.returns-then-bytes-eq0
 returns-then-bytes-eq0 c = search (read-empty, rules)
 
-pub returns-then-size-eq0 : goal.returns-then-size-eq0
-returns-then-size-eq0 c = search (read-unknown, rules)
+pub returns-in_default : goal.returns-in_default
+returns-in_default c = search (read-unknown, rules)
 
 pub returns-then-bytes-size : goal.returns-then-bytes-size
 returns-then-bytes-size c = search (read-long, rules)

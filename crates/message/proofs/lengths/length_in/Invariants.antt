@@ -1,12 +1,9 @@
 -- `message::lengths::length_in` meets its contract: what is passed of the table does not have the letter.
 use mathlib.Core.Path.{◌≡◌}
-use Prim.Native.Nat.{◌≤◌, ◌-◌}
-use lib.ListN.{length, drop}
+use Prim.Native.Nat.{◌*◌}
+use lib.ListN.{drop}
 use Rattle.message.specs.Feed.{length_in}
 use Rattle.message.proofs.lengths.length_in.Given as goal
 
 abbrev pub invariant-loop-i : goal.invariant-loop-i
-invariant-loop-i l = (l.i ≤ length l.table) × (length_in l.table l.letter ≡ length_in (drop l.i l.table) l.letter)
-
-abbrev pub decreases-loop-i : goal.decreases-loop-i
-decreases-loop-i l = length l.table - l.i
+invariant-loop-i l = length_in l.table l.letter ≡ length_in (drop (2 * l.i) l.table) l.letter

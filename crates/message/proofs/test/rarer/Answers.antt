@@ -3,8 +3,8 @@ use borrow.Author.Rules.{rules}
 use Rattle.message.proofs.Tested.{rare-unknown, rare-long, rare-sized, rare-kept, rare-broken}
 use Rattle.message.proofs.test.rarer.Goals as goal
 
-pub returns-then-size-eq0 : goal.returns-then-size-eq0
-returns-then-size-eq0 c = search (rare-unknown, rules)
+pub returns-in_default : goal.returns-in_default
+returns-in_default c = search (rare-unknown, rules)
 
 pub returns-then-whole-size : goal.returns-then-whole-size
 returns-then-whole-size c = search (rare-long, rules)
