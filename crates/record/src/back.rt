@@ -8,14 +8,15 @@ ghost use Rattle.message.specs.Letters.{letters, letter_in, listed, conditions, 
 ghost use Rattle.record.specs.Places.{record_size, letter_place, stamp_places, instrument_places, directory_places, end_of_replay_places, head_places, system_event_places, short_places, high_places, short_quote_places, long_quote_places, short_side_places, long_side_places, record_letters};
 ghost use Rattle.record.specs.Record.{laid, laid_back, is_own, clear};
 
+use crate::RECORD_SIZE;
 use field::{limits, text};
 use message::{Side, codes, entry, numbers};
 
 // ---- the fields, each moved to its place in the message
 
 // The letter and the stamp.
-fn stamp(kept: &[u8], out: &mut [u8])
-    requires { (length kept.now ≡ record_size) × (11 ≤ length out.old) }
+fn stamp(kept: &[u8; RECORD_SIZE], out: &mut [u8])
+    requires { 11 ≤ length out.old }
     ensures { out.new ≡ laid (letter_place ∷ stamp_rows) (values (letter_place ∷ stamp_places) kept.now) out.old }
 {
     field::carry::<1>(kept, 0, out, 0);
@@ -24,8 +25,8 @@ fn stamp(kept: &[u8], out: &mut [u8])
 }
 
 // H, and a quote before its sides.
-fn head(kept: &[u8], out: &mut [u8])
-    requires { (length kept.now ≡ record_size) × (16 ≤ length out.old) }
+fn head(kept: &[u8; RECORD_SIZE], out: &mut [u8])
+    requires { 16 ≤ length out.old }
     ensures { out.new ≡ laid (letter_place ∷ quote_rows) (values (letter_place ∷ head_places) kept.now) out.old }
 {
     stamp(kept, out);
@@ -44,16 +45,16 @@ fn short(kept: &[u8], at: usize, out: &mut [u8], to: usize)
     field::carry::<2>(kept, at + 18, out, to + 8);
 }
 
-fn system_event(kept: &[u8], out: &mut [u8])
-    requires { (length kept.now ≡ record_size) × (12 ≤ length out.old) }
+fn system_event(kept: &[u8; RECORD_SIZE], out: &mut [u8])
+    requires { 12 ≤ length out.old }
     ensures { out.new ≡ laid (letter_place ∷ system_event_rows) (values (letter_place ∷ system_event_places) kept.now) out.old }
 {
     stamp(kept, out);
     field::carry::<1>(kept, 1, out, 11);
 }
 
-fn short_side(kept: &[u8], side: Side, out: &mut [u8])
-    requires { (length kept.now ≡ record_size) × (26 ≤ length out.old) }
+fn short_side(kept: &[u8; RECORD_SIZE], side: Side, out: &mut [u8])
+    requires { 26 ≤ length out.old }
     ensures { out.new ≡ laid (letter_place ∷ short_side_rows) (values (letter_place ∷ short_side_places side) kept.now) out.old }
 {
     let at = crate::side_at(side);
@@ -61,8 +62,8 @@ fn short_side(kept: &[u8], side: Side, out: &mut [u8])
     short(kept, at, out, 16);
 }
 
-fn short_quote(kept: &[u8], out: &mut [u8])
-    requires { (length kept.now ≡ record_size) × (36 ≤ length out.old) }
+fn short_quote(kept: &[u8; RECORD_SIZE], out: &mut [u8])
+    requires { 36 ≤ length out.old }
     ensures { out.new ≡ laid (letter_place ∷ short_quote_rows) (values (letter_place ∷ short_quote_places) kept.now) out.old }
 {
     head(kept, out);
@@ -70,8 +71,8 @@ fn short_quote(kept: &[u8], out: &mut [u8])
     short(kept, 44, out, 26);
 }
 
-fn long_side(kept: &[u8], side: Side, out: &mut [u8])
-    requires { (length kept.now ≡ record_size) × (36 ≤ length out.old) }
+fn long_side(kept: &[u8; RECORD_SIZE], side: Side, out: &mut [u8])
+    requires { 36 ≤ length out.old }
     ensures { out.new ≡ laid (letter_place ∷ long_side_rows) (values (letter_place ∷ long_side_places side) kept.now) out.old }
 {
     let at = crate::side_at(side);
@@ -79,8 +80,8 @@ fn long_side(kept: &[u8], side: Side, out: &mut [u8])
     numbers::carry_long(kept, at, out, 16);
 }
 
-fn long_quote(kept: &[u8], out: &mut [u8])
-    requires { (length kept.now ≡ record_size) × (56 ≤ length out.old) }
+fn long_quote(kept: &[u8; RECORD_SIZE], out: &mut [u8])
+    requires { 56 ≤ length out.old }
     ensures { out.new ≡ laid (letter_place ∷ long_quote_rows) (values (letter_place ∷ long_quote_places) kept.now) out.old }
 {
     head(kept, out);
@@ -89,8 +90,8 @@ fn long_quote(kept: &[u8], out: &mut [u8])
 }
 
 // Id, symbol and date of an instrument.
-fn terms(kept: &[u8], out: &mut [u8])
-    requires { (length kept.now ≡ record_size) × (63 ≤ length out.old) }
+fn terms(kept: &[u8; RECORD_SIZE], out: &mut [u8])
+    requires { 63 ≤ length out.old }
     ensures { out.new ≡ laid (take 5 instrument_rows) (values (take 5 instrument_places) kept.now) out.old }
 {
     field::carry::<4>(kept, 4, out, 11);
@@ -100,8 +101,8 @@ fn terms(kept: &[u8], out: &mut [u8])
     field::carry::<1>(kept, 70, out, 25);
 }
 
-fn underlying(kept: &[u8], out: &mut [u8])
-    requires { (length kept.now ≡ record_size) × (63 ≤ length out.old) }
+fn underlying(kept: &[u8; RECORD_SIZE], out: &mut [u8])
+    requires { 63 ≤ length out.old }
     ensures { out.new ≡ overlay out.old 31 (part kept.now 83 13) }
 {
     field::carry::<8>(kept, 83, out, 31);
@@ -110,8 +111,8 @@ fn underlying(kept: &[u8], out: &mut [u8])
 }
 
 // Strike, option type and underlying.
-fn middle(kept: &[u8], out: &mut [u8])
-    requires { (length kept.now ≡ record_size) × (63 ≤ length out.old) }
+fn middle(kept: &[u8; RECORD_SIZE], out: &mut [u8])
+    requires { 63 ≤ length out.old }
     ensures { out.new ≡ laid (take 3 (drop 5 instrument_rows)) (values (take 3 (drop 5 instrument_places)) kept.now) out.old }
 {
     field::carry::<4>(kept, 64, out, 26);
@@ -119,8 +120,8 @@ fn middle(kept: &[u8], out: &mut [u8])
     underlying(kept, out);
 }
 
-fn reserved(kept: &[u8], out: &mut [u8])
-    requires { (length kept.now ≡ record_size) × (63 ≤ length out.old) }
+fn reserved(kept: &[u8; RECORD_SIZE], out: &mut [u8])
+    requires { 63 ≤ length out.old }
     ensures { out.new ≡ overlay out.old 47 (part kept.now 96 16) }
 {
     field::carry::<8>(kept, 96, out, 47);
@@ -128,8 +129,8 @@ fn reserved(kept: &[u8], out: &mut [u8])
 }
 
 // Closing type, tradable, variation and reserved.
-fn marks(kept: &[u8], out: &mut [u8])
-    requires { (length kept.now ≡ record_size) × (63 ≤ length out.old) }
+fn marks(kept: &[u8; RECORD_SIZE], out: &mut [u8])
+    requires { 63 ≤ length out.old }
     ensures { out.new ≡ laid (drop 8 instrument_rows) (values (drop 8 instrument_places) kept.now) out.old }
 {
     field::carry::<1>(kept, 72, out, 44);
@@ -138,8 +139,8 @@ fn marks(kept: &[u8], out: &mut [u8])
     reserved(kept, out);
 }
 
-fn directory(kept: &[u8], out: &mut [u8])
-    requires { (length kept.now ≡ record_size) × (63 ≤ length out.old) }
+fn directory(kept: &[u8; RECORD_SIZE], out: &mut [u8])
+    requires { 63 ≤ length out.old }
     ensures { out.new ≡ laid (letter_place ∷ directory_rows) (values (letter_place ∷ directory_places) kept.now) out.old }
 {
     stamp(kept, out);
@@ -148,8 +149,8 @@ fn directory(kept: &[u8], out: &mut [u8])
     marks(kept, out);
 }
 
-fn end_of_replay(kept: &[u8], out: &mut [u8])
-    requires { (length kept.now ≡ record_size) × (21 ≤ length out.old) }
+fn end_of_replay(kept: &[u8; RECORD_SIZE], out: &mut [u8])
+    requires { 21 ≤ length out.old }
     ensures { out.new ≡ laid (letter_place ∷ end_of_replay_rows) (values (letter_place ∷ end_of_replay_places) kept.now) out.old }
 {
     field::carry::<1>(kept, 0, out, 0);
@@ -157,8 +158,8 @@ fn end_of_replay(kept: &[u8], out: &mut [u8])
 }
 
 // The fields of any letter, to a message's length.
-pub fn lay(letter: u8, kept: &[u8], out: &mut [u8])
-    requires { ((letter_in letters letter).size ≡ 0 → ⊥) × (length kept.now ≡ record_size) × ((letter_in letters letter).size ≤ length out.old) }
+pub fn lay(letter: u8, kept: &[u8; RECORD_SIZE], out: &mut [u8])
+    requires { ((letter_in letters letter).size ≡ 0 → ⊥) × ((letter_in letters letter).size ≤ length out.old) }
     ensures { out.new ≡ laid_back letter kept.now out.old }
 {
     match letter {
@@ -195,8 +196,8 @@ fn is_low(kept: &[u8], at: usize) -> bool
 }
 
 // Is every place 0 that is no field's?
-pub fn is_own(letter: u8, kept: &[u8]) -> bool
-    requires { ((letter_in letters letter).size ≡ 0 → ⊥) × (length kept.now ≡ record_size) }
+pub fn is_own(letter: u8, kept: &[u8; RECORD_SIZE]) -> bool
+    requires { (letter_in letters letter).size ≡ 0 → ⊥ }
     ensures { result ≡ is_own letter kept.now }
 {
     match letter {
@@ -214,16 +215,15 @@ pub fn is_own(letter: u8, kept: &[u8]) -> bool
 }
 
 // The rules of a quote before its sides.
-fn head_keeps(kept: &[u8]) -> bool
-    requires { length kept.now ≡ record_size }
+fn head_keeps(kept: &[u8; RECORD_SIZE]) -> bool
     ensures { result ≡ time_in_range (be (part kept.now 8 8)) && listed conditions (be (part kept.now 1 1)) }
 {
     limits::time_keeps(kept, 8) & codes::is_condition(field::read::<u8>(kept, 1))
 }
 
 // Do the fields keep the rules of their letter?
-pub fn keep(letter: u8, kept: &[u8]) -> bool
-    requires { ((letter_in letters letter).size ≡ 0 → ⊥) × (length kept.now ≡ record_size) }
+pub fn keep(letter: u8, kept: &[u8; RECORD_SIZE]) -> bool
+    requires { (letter_in letters letter).size ≡ 0 → ⊥ }
     ensures { result ≡ keeps_all (letter_in letters letter).rows (values (letter_in record_letters letter).rows kept.now) }
 {
     match letter {

@@ -57,17 +57,17 @@ pub fn put(bytes: &[u8], out: &mut [u8])
 pub fn take(bytes: &[u8]) -> Held
     ensures { result ≡ record_of bytes.now }
 {
-    if bytes.len() != RECORD_SIZE {
+    let Ok(kept) = <&[u8; RECORD_SIZE]>::try_from(bytes) else {
+        return none();
+    };
+    let letter = kept[0];
+    let Some(_) = message::lengths::length_of(letter) else {
+        return none();
+    };
+    if !back::is_own(letter, kept) {
         return none();
     }
-    let letter = bytes[0];
-    if message::lengths::length_of(letter).is_none() {
-        return none();
-    }
-    if !back::is_own(letter, bytes) {
-        return none();
-    }
-    say::message(letter, bytes)
+    say::message(letter, kept)
 }
 
 // A message's bytes read to its record: 0, or the number of a refusal, which leaves the record memory.
@@ -89,22 +89,22 @@ pub fn read(bytes: &[u8], memory: &mut [u8]) -> u32
 pub fn write(record: &[u8], out: &mut [u8]) -> u32
     ensures { answered result out.new ≡ write_answer «record».now out.old }
 {
-    if record.len() != RECORD_SIZE {
+    let Ok(kept) = <&[u8; RECORD_SIZE]>::try_from(record) else {
         return 20;
-    }
-    let letter = record[0];
+    };
+    let letter = kept[0];
     let Some(size) = message::lengths::length_of(letter) else {
         return NO_RECORD;
     };
-    if !back::keep(letter, record) {
+    if !back::keep(letter, kept) {
         return NO_RECORD;
     }
-    if !back::is_own(letter, record) {
+    if !back::is_own(letter, kept) {
         return NO_RECORD;
     }
     if out.len() < size {
         return 25;
     }
-    back::lay(letter, record, out);
+    back::lay(letter, kept, out);
     size as u32 * 256
 }

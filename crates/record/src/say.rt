@@ -5,11 +5,10 @@ ghost use Rattle.message.specs.Letters.{letter_in, no_texts, stamp_of, short_num
 ghost use Rattle.record.specs.Places.{record_size, stamp_places, short_places, system_event_places, instrument_places, directory_places, head_places, short_quote_places, long_quote_places, short_side_places, long_side_places, end_of_replay_places, record_letter, record_letters};
 ghost use Rattle.record.specs.Record.{held, said_by};
 
-use crate::{Held};
+use crate::{Held, RECORD_SIZE};
 use message::{Directory, EndOfReplay, Instrument, LongQuote, LongSide, Message, ShortNumbers, ShortQuote, ShortSide, Side, Stamp, SystemEvent, Texts, TradingAction, numbers, prices};
 
-fn stamp(bytes: &[u8]) -> Stamp
-    requires { record_size ≤ length bytes.now }
+fn stamp(bytes: &[u8; RECORD_SIZE]) -> Stamp
     ensures { result ≡ stamp_of (values stamp_places bytes.now) }
 {
     Stamp {
@@ -42,8 +41,7 @@ fn bare(m: Message) -> Held
     }
 }
 
-fn system_event(bytes: &[u8]) -> Held
-    requires { record_size ≤ length bytes.now }
+fn system_event(bytes: &[u8; RECORD_SIZE]) -> Held
     ensures { result ≡ said_by (record_letter system_event_letter system_event_places) bytes.now }
 {
     bare(Message::SystemEvent(SystemEvent {
@@ -52,8 +50,7 @@ fn system_event(bytes: &[u8]) -> Held
     }))
 }
 
-fn instrument(bytes: &[u8]) -> Instrument
-    requires { record_size ≤ length bytes.now }
+fn instrument(bytes: &[u8; RECORD_SIZE]) -> Instrument
     ensures { result ≡ instrument_of (values instrument_places bytes.now) }
 {
     Instrument {
@@ -69,8 +66,7 @@ fn instrument(bytes: &[u8]) -> Instrument
     }
 }
 
-fn texts(bytes: &[u8]) -> Texts
-    requires { record_size ≤ length bytes.now }
+fn texts(bytes: &[u8; RECORD_SIZE]) -> Texts
     ensures { result ≡ texts_of (values instrument_places bytes.now) }
 {
     Texts {
@@ -80,8 +76,7 @@ fn texts(bytes: &[u8]) -> Texts
     }
 }
 
-fn directory(bytes: &[u8]) -> Held
-    requires { record_size ≤ length bytes.now }
+fn directory(bytes: &[u8; RECORD_SIZE]) -> Held
     ensures { result ≡ said_by (record_letter directory_letter directory_places) bytes.now }
 {
     Held {
@@ -93,8 +88,7 @@ fn directory(bytes: &[u8]) -> Held
     }
 }
 
-fn trading_action(bytes: &[u8]) -> Held
-    requires { record_size ≤ length bytes.now }
+fn trading_action(bytes: &[u8; RECORD_SIZE]) -> Held
     ensures { result ≡ said_by (record_letter trading_action_letter head_places) bytes.now }
 {
     bare(Message::TradingAction(TradingAction {
@@ -104,8 +98,7 @@ fn trading_action(bytes: &[u8]) -> Held
     }))
 }
 
-fn short_quote(bytes: &[u8]) -> Held
-    requires { record_size ≤ length bytes.now }
+fn short_quote(bytes: &[u8; RECORD_SIZE]) -> Held
     ensures { result ≡ said_by (record_letter short_quote_letter short_quote_places) bytes.now }
 {
     bare(Message::ShortQuote(ShortQuote {
@@ -117,8 +110,7 @@ fn short_quote(bytes: &[u8]) -> Held
     }))
 }
 
-fn long_quote(bytes: &[u8]) -> Held
-    requires { record_size ≤ length bytes.now }
+fn long_quote(bytes: &[u8; RECORD_SIZE]) -> Held
     ensures { result ≡ said_by (record_letter long_quote_letter long_quote_places) bytes.now }
 {
     bare(Message::LongQuote(LongQuote {
@@ -130,8 +122,7 @@ fn long_quote(bytes: &[u8]) -> Held
     }))
 }
 
-fn short_side(bytes: &[u8], side: Side) -> Held
-    requires { record_size ≤ length bytes.now }
+fn short_side(bytes: &[u8; RECORD_SIZE], side: Side) -> Held
     ensures { result ≡ said_by (record_letter (short_side_letter side) (short_side_places side)) bytes.now }
 {
     bare(Message::ShortSide(ShortSide {
@@ -143,8 +134,7 @@ fn short_side(bytes: &[u8], side: Side) -> Held
     }))
 }
 
-fn long_side(bytes: &[u8], side: Side) -> Held
-    requires { record_size ≤ length bytes.now }
+fn long_side(bytes: &[u8; RECORD_SIZE], side: Side) -> Held
     ensures { result ≡ said_by (record_letter (long_side_letter side) (long_side_places side)) bytes.now }
 {
     bare(Message::LongSide(LongSide {
@@ -156,8 +146,7 @@ fn long_side(bytes: &[u8], side: Side) -> Held
     }))
 }
 
-fn end_of_replay(bytes: &[u8]) -> Held
-    requires { record_size ≤ length bytes.now }
+fn end_of_replay(bytes: &[u8; RECORD_SIZE]) -> Held
     ensures { result ≡ said_by (record_letter end_of_replay_letter end_of_replay_places) bytes.now }
 {
     bare(Message::EndOfReplay(EndOfReplay {
@@ -165,8 +154,7 @@ fn end_of_replay(bytes: &[u8]) -> Held
     }))
 }
 
-pub fn message(letter: u8, bytes: &[u8]) -> Held
-    requires { record_size ≤ length bytes.now }
+pub fn message(letter: u8, bytes: &[u8; RECORD_SIZE]) -> Held
     ensures { result ≡ said_by (letter_in record_letters letter) bytes.now }
 {
     match letter {

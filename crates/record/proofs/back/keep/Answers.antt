@@ -42,4 +42,4 @@ returns-in-65 c = ask-kept c.args.letter c.args.kept.now c.head_keeps-in-65.ensu
 pub returns-in_default : goal.returns-in_default
 returns-in_default c =
     let r = c.in_default.in_default-own.rest in
-    number-kept c.args.letter c.args.kept.now (last_arm _ r.0.0.0.0.0.0.0.0.1 r.0.0.0.0.0.0.0.1 r.0.0.0.0.0.0.1 r.0.0.0.0.0.1 r.0.0.0.0.1 r.0.0.0.1 r.0.0.1 r.0.1 r.1 c.requires.0) c.read-in_default.ensures c.number_in_range.ensures
+    number-kept c.args.letter c.args.kept.now (last_arm _ r.0.0.0.0.0.0.0.0.1 r.0.0.0.0.0.0.0.1 r.0.0.0.0.0.0.1 r.0.0.0.0.0.1 r.0.0.0.0.1 r.0.0.0.1 r.0.0.1 r.0.1 r.1 c.requires) c.read-in_default.ensures c.number_in_range.ensures

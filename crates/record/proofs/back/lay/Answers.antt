@@ -10,45 +10,45 @@ use Rattle.record.proofs.back.lay.Goals as goal
 
 pub system_event-requires : goal.system_event-requires
 unfolding letters letter_among
-system_event-requires c = (c.requires.1, back-room 83 _ _ c.in-83.is c.requires.2)
+system_event-requires c = back-room 83 _ _ c.in-83.is c.requires.1
 
 pub directory-requires : goal.directory-requires
 unfolding letters letter_among
-directory-requires c = (c.requires.1, back-room 109 _ _ c.in-109.is c.requires.2)
+directory-requires c = back-room 109 _ _ c.in-109.is c.requires.1
 
 pub head-requires : goal.head-requires
 unfolding letters letter_among
-head-requires c = (c.requires.1, back-room 72 _ _ c.in-72.is c.requires.2)
+head-requires c = back-room 72 _ _ c.in-72.is c.requires.1
 
 pub short_quote-requires : goal.short_quote-requires
 unfolding letters letter_among
-short_quote-requires c = (c.requires.1, back-room 113 _ _ c.in-113.is c.requires.2)
+short_quote-requires c = back-room 113 _ _ c.in-113.is c.requires.1
 
 pub long_quote-requires : goal.long_quote-requires
 unfolding letters letter_among
-long_quote-requires c = (c.requires.1, back-room 81 _ _ c.in-81.is c.requires.2)
+long_quote-requires c = back-room 81 _ _ c.in-81.is c.requires.1
 
 pub short_side-requires : goal.short_side-requires
 unfolding letters letter_among
-short_side-requires c = (c.requires.1, back-room 98 _ _ c.in-98.is c.requires.2)
+short_side-requires c = back-room 98 _ _ c.in-98.is c.requires.1
 
 pub short_side-requires-in-97 : goal.short_side-requires-in-97
 unfolding letters letter_among
-short_side-requires-in-97 c = (c.requires.1, back-room 97 _ _ c.in-97.is c.requires.2)
+short_side-requires-in-97 c = back-room 97 _ _ c.in-97.is c.requires.1
 
 pub long_side-requires : goal.long_side-requires
 unfolding letters letter_among
-long_side-requires c = (c.requires.1, back-room 66 _ _ c.in-66.is c.requires.2)
+long_side-requires c = back-room 66 _ _ c.in-66.is c.requires.1
 
 pub long_side-requires-in-65 : goal.long_side-requires-in-65
 unfolding letters letter_among
-long_side-requires-in-65 c = (c.requires.1, back-room 65 _ _ c.in-65.is c.requires.2)
+long_side-requires-in-65 c = back-room 65 _ _ c.in-65.is c.requires.1
 
 pub end_of_replay-requires : goal.end_of_replay-requires
 unfolding letters letter_among
 end_of_replay-requires c =
     let r = c.in_default.in_default-own.rest in
-    (c.requires.1, back-room 77 _ _ (last_arm _ r.0.0.0.0.0.0.0.0.1 r.0.0.0.0.0.0.0.1 r.0.0.0.0.0.0.1 r.0.0.0.0.0.1 r.0.0.0.0.1 r.0.0.0.1 r.0.0.1 r.0.1 r.1 c.requires.0) c.requires.2)
+    back-room 77 _ _ (last_arm _ r.0.0.0.0.0.0.0.0.1 r.0.0.0.0.0.0.0.1 r.0.0.0.0.0.0.1 r.0.0.0.0.0.1 r.0.0.0.0.1 r.0.0.0.1 r.0.0.1 r.0.1 r.1 c.requires.0) c.requires.1
 
 pub returns-in-83 : goal.returns-in-83
 unfolding letters record_letters letter_among

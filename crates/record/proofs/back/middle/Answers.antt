@@ -1,4 +1,5 @@
 -- `record::back::middle` meets its contract.
+use borrow.Author.Rules.{rules}
 use mathlib.Core.Path.{refl}
 use native.Mathlib.Omega.{arith}
 use lib.ListN.{take, drop}
@@ -10,4 +11,4 @@ use Rattle.record.proofs.back.middle.Goals as goal
 pub returns : goal.returns
 unfolding paired
 returns c =
-    moved record_size (take 3 (drop 5 instrument_places)) (take 3 (drop 5 instrument_rows)) c.args.kept.now c.args.out.now refl (omega arith) c.type_inv.kept (_, c.carry.ensures, (_, c.carry-2.ensures, (_, c.underlying.ensures, refl)))
+    moved record_size (take 3 (drop 5 instrument_places)) (take 3 (drop 5 instrument_rows)) c.args.kept.now c.args.out.now refl (omega arith) (search rules) (_, c.carry.ensures, (_, c.carry-2.ensures, (_, c.underlying.ensures, refl)))

@@ -1,4 +1,5 @@
 -- `record::back::stamp` meets its contract.
+use borrow.Author.Rules.{rules}
 use mathlib.Core.Path.{refl}
 use mathlib.Core.List.{◌∷◌}
 use native.Mathlib.Omega.{arith}
@@ -10,4 +11,4 @@ use Rattle.record.proofs.back.stamp.Goals as goal
 pub returns : goal.returns
 unfolding paired
 returns c =
-    moved record_size (letter_place ∷ stamp_places) (letter_place ∷ stamp_rows) c.args.kept.now c.args.out.now refl (omega arith) c.type_inv.kept (_, c.carry.ensures, (_, c.carry-2.ensures, (_, c.carry-3.ensures, refl)))
+    moved record_size (letter_place ∷ stamp_places) (letter_place ∷ stamp_rows) c.args.kept.now c.args.out.now refl (omega arith) (search rules) (_, c.carry.ensures, (_, c.carry-2.ensures, (_, c.carry-3.ensures, refl)))

@@ -1,4 +1,5 @@
 -- `record::back::system_event` meets its contract.
+use borrow.Author.Rules.{rules}
 use mathlib.Core.Path.{refl}
 use mathlib.Core.List.{◌∷◌}
 use native.Mathlib.Omega.{arith}
@@ -12,4 +13,4 @@ pub returns : goal.returns
 unfolding paired
 returns c =
     after (letter_place ∷ stamp_places) (letter_place ∷ stamp_rows) (drop 2 system_event_places) (drop 2 system_event_rows) c.args.kept.now c.args.out.now refl c.stamp.ensures
-    (moved record_size (drop 2 system_event_places) (drop 2 system_event_rows) c.args.kept.now _ refl (omega arith) c.type_inv.kept (_, c.carry.ensures, refl))
+    (moved record_size (drop 2 system_event_places) (drop 2 system_event_rows) c.args.kept.now _ refl (omega arith) (search rules) (_, c.carry.ensures, refl))

@@ -1,4 +1,5 @@
 -- `record::back::terms` meets its contract.
+use borrow.Author.Rules.{rules}
 use mathlib.Core.Path.{refl}
 use native.Mathlib.Omega.{arith}
 use lib.ListN.{take}
@@ -10,4 +11,4 @@ use Rattle.record.proofs.back.terms.Goals as goal
 pub returns : goal.returns
 unfolding paired
 returns c =
-    moved record_size (take 5 instrument_places) (take 5 instrument_rows) c.args.kept.now c.args.out.now refl (omega arith) c.type_inv.kept (_, c.carry.ensures, (_, c.carry-2.ensures, (_, c.carry-3.ensures, (_, c.carry-4.ensures, (_, c.carry-5.ensures, refl)))))
+    moved record_size (take 5 instrument_places) (take 5 instrument_rows) c.args.kept.now c.args.out.now refl (omega arith) (search rules) (_, c.carry.ensures, (_, c.carry-2.ensures, (_, c.carry-3.ensures, (_, c.carry-4.ensures, (_, c.carry-5.ensures, refl)))))

@@ -1,7 +1,7 @@
 -- `record::say::texts` meets its contract.
-use Rattle.record.proofs.Ways.{texts-copied}
+use Rattle.message.specs.Layout.{values}
 use Rattle.record.proofs.say.texts.Goals as goal
 
 pub returns : goal.returns
-returns c =
-    texts-copied c.args.bytes.now c.requires c.copy.ensures c.copy-2.ensures c.copy-3.ensures
+unfolding values
+returns c i = record { symbol = c.bytes.ensures i; underlying = c.bytes-2.ensures i; reserved = c.bytes-3.ensures i }
