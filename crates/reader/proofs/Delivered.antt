@@ -1,9 +1,9 @@
 -- The ways through a message that is delivered where its bytes lie: tested, applied to its row, its record written, its number counted.
 -- Assumes nothing.
 use mathlib.Core.Path.{◌≡◌, refl, sym, ap, ◌∙◌}
-use mathlib.Core.Bool.{true}
+use mathlib.Core.Bool.{Bool, true, false, not}
 use mathlib.Core.Logic.{◌⊎◌, inl, inr}
-use mathlib.Core.List.{List}
+use mathlib.Core.List.{List, [], ◌∷◌}
 use Prim.Native.Nat.{ℕ, ◌+◌, ◌*◌, ◌≤◌, ◌<◌}
 use native.Mathlib.Decide.{ℕ_discrete}
 use native.Mathlib.Omega.{arith}
@@ -12,18 +12,21 @@ use Rattle.field.specs.Bytes.{part, be}
 use Rattle.field.proofs.Parts.{part_length}
 use Rattle.field.proofs.Numbers.{Lent, lent-bytes}
 use Rattle.message.specs.Layout.{values}
-use Rattle.message.specs.Feed.{letter_among}
+use Rattle.message.specs.Feed.{letter_among, listed_length, bytes_read}
 use Rattle.message.specs.Letters.{letters, letter_in, end_of_replay_rows, end_of_replay_of}
 use Rattle.message.specs.Message as messages
 use Rattle.message.specs.Message.{accepted, read_of, read_as}
-use Rattle.message.specs.Test.{tested_as, tested, quote_letters, quote_length}
+use Rattle.message.specs.Test as tests
+use Rattle.message.specs.Test.{tested_as, tested, checked_as, checked, quote_letters, quote_length}
 use Rattle.message.specs.declared.Message.{Message}
 use Rattle.message.specs.declared.Texts.{Texts}
 use Rattle.message.specs.declared.Reading.{Reading}
 use Rattle.message.specs.declared.Refusal as message_refusal
 use Rattle.message.specs.declared.Refusal.TheVariants as message_refusals
-use Rattle.message.proofs.Tested.{test-empty, test-some}
+use Rattle.message.proofs.Tested.{test-empty}
+use Rattle.message.proofs.Feeds.{unlisted_length}
 use Rattle.packet.specs.Frame.{held_size}
+use Rattle.packet.proofs.Rules.{never}
 use Rattle.packet.specs.Numbering.{number_after}
 use Rattle.packet.specs.Session.{Delivered, done, denied, delivered}
 use Rattle.table.specs.Memory.{Memories}
@@ -45,7 +48,7 @@ use Rattle.handle.proofs.Laid.{handle-back}
 use Rattle.handle.proofs.Single.{next-put, live-put, rows-put, refusal-put, event-put}
 use Rattle.reader.specs.Deliver.{Table, table_of, table_by, Said, said, settled_by, settled, heard, deliver}
 use Rattle.reader.specs.Calls.{verdict_number}
-use Rattle.reader.specs.Refusals.{refusal_number, number_in, named, named_in}
+use Rattle.reader.specs.Refusals.{refusal_number, number_in}
 use Rattle.reader.specs.declared.Refusal as own_refusal
 use Rattle.reader.proofs.Ways.{some_number}
 use borrow.Author.Tests.{eqb-false}
@@ -54,6 +57,9 @@ use Rattle.reader.specs.Shapes.{Going, Ready, closed_as, applied_as, tried_as}
 use Rattle.std.specs.Prelude.{Err}
 use Rattle.std.specs.Prelude.{Ok}
 use Rattle.std.specs.Prelude.{Result}
+use Rattle.std.specs.Prelude.{Option}
+use Rattle.std.specs.Prelude.{None}
+use Rattle.std.specs.Prelude.{is_some}
 use Rattle.message.specs.declared.Refusal.{Refusal}
 
 -- ---- a handle as head and places
@@ -70,9 +76,11 @@ module _ (handle : List ℕ) (is : is_handle handle ≡ true) where
 
 -- ---- the test
 
-pub tested-by : (bs : List ℕ) (letter : ℕ) {r : ℕ} → (length bs ≡ 0 → ⊥) → letter ≡ get_or bs 0 0 → r ≡ tested (read_as (letter_in letters letter) bs)
-    → r ≡ tested (read_of bs)
-tested-by bs letter some e p = test-some bs some (rw e at p)
+pub checked-by : (bs : List ℕ) (letter : ℕ) {v : Result (Unit {0}) Refusal} → (length bs ≡ 0 → ⊥) → letter ≡ get_or bs 0 0
+    → v ≡ checked (read_as (letter_in letters letter) bs) → v ≡ checked (read_of bs)
+unfolding read_of read_as bytes_read
+checked-by [] letter some e p = absurd (some refl)
+checked-by (c ∷ bs) letter some e p = p ∙ ap (λ (x : ℕ). checked (read_as (letter_in letters x) (c ∷ bs))) e
 
 read_some : (x : message_refusal.Refusal) → messages.refusal_number x ≡ 0 → ⊥
 read_some message_refusals.UnknownLetter e = omega arith
@@ -90,25 +98,20 @@ passed r = by r.answer refl
     by (Ok m) f g = (m, r.texts, λ i. record { answer = f i; texts = r.texts })
     by (Err x) f g = absurd (read_some x g)
 
-pub tested_low : (bs : List ℕ) {n : ℕ} → n ≡ tested (read_of bs) → n ≤ 12
-tested_low bs e = rw e (by (read_of bs).answer)
-  where
-    by : (a : Result Message Refusal) → tested_as a ≤ 12
-    by (Ok m) = omega arith
-    by (Err message_refusals.UnknownLetter) = omega arith
-    by (Err message_refusals.WrongLength) = omega arith
-    by (Err message_refusals.BadField) = omega arith
+-- its number is 0, or that of the refusal
+module _ (bs : List ℕ) {v : Result (Unit {0}) Refusal} (e : v ≡ checked (read_of bs)) where
+  tested-number : tests.number_in v ≡ tested (read_of bs)
+  tested-number = ap tests.number_in e ∙ by (read_of bs).answer
+    where
+      by : (a : Result Message Refusal) → tests.number_in (checked_as a) ≡ tested_as a
+      by (Ok m) = refl
+      by (Err x) = refl
 
--- the number of a test that failed has a name
-tested_named : (bs : List ℕ) {n : ℕ} → n ≡ tested (read_of bs) → (n ≡ 0 → ⊥) → refusal_number (named n) ≡ n
-unfolding named named_in
-tested_named bs e d = rw e (by (read_of bs).answer (λ z. d (e ∙ z)))
-  where
-    by : (a : Result Message Refusal) → (tested_as a ≡ 0 → ⊥) → refusal_number (named (tested_as a)) ≡ tested_as a
-    by (Ok m) h = absurd (h refl)
-    by (Err message_refusals.UnknownLetter) h = refl
-    by (Err message_refusals.WrongLength) h = refl
-    by (Err message_refusals.BadField) h = refl
+  pub tested-passed : v ≡ Ok (tt {0}) → tested (read_of bs) ≡ 0
+  tested-passed f = sym tested-number ∙ ap tests.number_in f
+
+  tested-refused : {x : Refusal} → v ≡ Err x → messages.refusal_number x ≡ tested (read_of bs)
+  tested-refused f = sym (ap tests.number_in f) ∙ tested-number
 
 -- ---- what a message does, by its reading
 
@@ -190,16 +193,15 @@ module _ (handle : List ℕ) (table : Memories) (g : Going handle table) (lent :
   pub tried-empty : length body ≡ 0 → left 10 handle table ≡ tried_as (deliver here body) handle
   tried-empty e = refuses (test-empty body e) (λ z. omega arith)
 
-  -- the refusal of that number
-  pub tried-bad : {n : ℕ} {r : own_refusal.Refusal} → n ≡ tested (read_of body) → (n ≡ 0 → ⊥) → r ≡ named n
-      → left (refusal_number r) handle table ≡ tried_as (deliver here body) handle
-  tried-bad {n} e d f = ap (λ (k : ℕ). left k handle table) (ap refusal_number f ∙ tested_named body e d) ∙ refuses e d
+  pub tried-bad : {v : Result (Unit {0}) Refusal} {x : Refusal} (r : own_refusal.Refusal) → v ≡ checked (read_of body) → v ≡ Err x
+      → refusal_number r ≡ messages.refusal_number x → left (refusal_number r) handle table ≡ tried_as (deliver here body) handle
+  tried-bad r e f k = refuses (k ∙ tested-refused body e f) (eqb-false (refusal_number r) 0 (some_number r))
 
   -- what was promised of the message that the bytes are
-  module _ {n r : ℕ} (e : n ≡ tested (read_of body)) (z : n ≡ 0) (handle' : List ℕ) (table' : Memories)
+  module _ {v : Result (Unit {0}) Refusal} {r : ℕ} (e : v ≡ checked (read_of body)) (z : v ≡ Ok (tt {0})) (handle' : List ℕ) (table' : Memories)
       (a : (m : Message) (t : Texts) → read_of body ≡ accepted m t → left r handle' table' ≡ applied_as (effect (head_of handle).board m t table) handle) where
     is-message : Passed (read_of body)
-    is-message = passed (read_of body) (sym e ∙ z)
+    is-message = passed (read_of body) (tested-passed body e z)
 
     abbrev effect_is : Indexed
     effect_is = effect (head_of handle).board is-message.0 is-message.1 table
@@ -297,6 +299,13 @@ module _ (handle : List ℕ) (table : Memories) (g : Ready handle table) (v : Re
     pub message-done : {handle'' : List ℕ} (next : ℕ) → v ≡ Ok (tt {0}) → next ≡ number_after h.line.next → handle'' ≡ with_field next_field next handle'
         → left 768 handle'' table' ≡ closed_as (delivered h.line (deliver (table_of h.board table) body)) handle
     message-done next = done-as (deliver (table_of h.board table) body) next (deliver-some (table_of h.board table) body) e
+
+-- a letter that has a quote's length is a quote's
+pub quote-some : (c : ℕ) {x : Option ℕ} {b : Bool} → x ≡ listed_length (letter_in quote_letters c) → is_some x ≡ not b → b ≡ false → quote_length c ≡ 0 → ⊥
+unfolding quote_length
+quote-some c {x} e k f z =
+    let none : None ≡ x = unlisted_length (letter_in quote_letters c) refl z ∙ sym e in
+    never (ap is_some none ∙ k ∙ ap not f)
 
 -- a quote's letter is neither S nor M
 module _ (c : ℕ) (some : quote_length c ≡ 0 → ⊥) where

@@ -1,5 +1,6 @@
 // The refusals of a call by name and by number, and those of the layers below among them.
 ghost use Rattle.std.specs.Prelude.{◌≡◌};
+ghost use Rattle.message.specs.Message as messages;
 ghost use Rattle.packet.specs.Refusals.{fault_number};
 ghost use Rattle.table.specs.Board as tables;
 ghost use Rattle.reader.specs.Refusals.{refusal_number, standing, named};
@@ -86,6 +87,18 @@ impl From<table::Refusal> for Refusal {
             table::Refusal::NoQuotes => Refusal::NoQuotes,
             table::Refusal::FixedField => Refusal::FixedField,
             table::Refusal::TableFull => Refusal::TableFull,
+        }
+    }
+}
+
+impl From<message::Refusal> for Refusal {
+    ghost from_gives = { λ m r. refusal_number r ≡ messages.refusal_number m };
+
+    fn from(m: message::Refusal) -> Refusal {
+        match m {
+            message::Refusal::UnknownLetter => Refusal::UnknownMessage,
+            message::Refusal::WrongLength => Refusal::WrongLength,
+            message::Refusal::BadField => Refusal::BadField,
         }
     }
 }
