@@ -40,7 +40,7 @@ pub struct Head {
     pub line: Line,
     pub board: Board,
     pub ended: bool,
-    // The number of the refusal that stands, 0 for none.
+    // The number of the refusal that stands, 0 for none: a byte of the handle, as `head_bytes` lays it.
     pub refusal: u8,
     // How many bytes are held.
     pub used: usize,
@@ -115,7 +115,7 @@ pub fn put_head(h: Head, out: &mut [u8])
     put_marks(h, out);
 }
 
-// ---- single fields, where the handle lies
+// ---- single fields, where the handle lies: a function for each, since the clause of each names its own field of `head_of`
 
 pub fn next(bytes: &[u8]) -> u64
     requires { length bytes.now ≡ handle_size }

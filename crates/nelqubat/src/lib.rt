@@ -1,4 +1,5 @@
-// The calls for C: numbers and lent bytes only. Each answers a number whose low byte is the refusal, 0 for none.
+// The calls for C: numbers and lent bytes only. Each answers a number whose low byte is the refusal, 0 for none, so answers by name become
+// numbers here, and a handle, its table and its index come as three borrows.
 #![tactic(auto)]
 
 ghost use Rattle.std.specs.Prelude.{◌≡◌, ◌≤◌, [], length, take};
@@ -134,7 +135,8 @@ pub fn nelqubat_save(handle: &[u8], table: &[u8], out: &mut [u8]) -> u32
     saved_number(Reader::read(handle).save(table, out))
 }
 
-// An image of version 1 or 2 as version 3, to the front of `out`; the answer is as of saving.
+// An image of version 1 or 2 as version 3, to the front of `out`; the answer is as of saving. This and `nelqubat_back` are two names of C's
+// for one function of two ways.
 pub fn nelqubat_forward(image: &[u8], out: &mut [u8]) -> u32
     ensures { HostMoves Forward image.now out.old result out.new }
 {

@@ -34,7 +34,13 @@ fn test(size: Option<usize>, letter: u8, body: &[u8]) -> Result<(), message::Ref
 }
 
 // A message for the row of its id.
-fn place(rows: usize, handle: &mut [u8], table: &mut [u8], index: &mut [u8], body: &[u8]) -> Result<(), Refusal>
+fn place(
+    rows: usize,
+    handle: &mut [u8],
+    table: &mut [u8],
+    index: &mut [u8],
+    body: &[u8],
+) -> Result<(), Refusal>
     requires { (is_handle handle.old ≡ true) × ((rows ≡ (head_of handle.old).board.rows) × Placeable rows body.now (memories table.old index.old)) }
     ensures { (m : Message) (t : Texts) → read_of body.now ≡ accepted m t → left (number_in result) handle.new (memories table.new index.new) ≡ applied_as (effect (head_of handle.old).board m t (memories table.old index.old)) handle.old }
 {
@@ -75,7 +81,13 @@ fn apply(
 }
 
 // Tested, and applied.
-fn tried(rows: usize, handle: &mut [u8], table: &mut [u8], index: &mut [u8], body: &[u8]) -> Result<(), Refusal>
+fn tried(
+    rows: usize,
+    handle: &mut [u8],
+    table: &mut [u8],
+    index: &mut [u8],
+    body: &[u8],
+) -> Result<(), Refusal>
     requires { Going handle.old (memories table.old index.old) × (rows ≡ (head_of handle.old).board.rows) }
     ensures { left (number_in result) handle.new (memories table.new index.new) ≡ tried_as (deliver (table_of (head_of handle.old).board (memories table.old index.old)) body.now) handle.old }
 {
@@ -99,7 +111,7 @@ pub fn message(
 ) -> u32
     requires { Ready handle.old (memories table.old index.old) × ((rows ≡ (head_of handle.old).board.rows) × ((next ≡ (head_of handle.old).line.next) × (next < highest_number))) }
     ensures closes { left result handle.new (memories table.new index.new) ≡ closed_as (delivered (head_of handle.old).line (deliver (table_of (head_of handle.old).board (memories table.old index.old)) body.now)) handle.old }
-    ensures upper_bound { result < 65_536 }
+    ensures low_half { result < 65_536 }
 {
     if let Err(r) = tried(rows, handle, table, index, body) {
         return told::refuse(r, handle);

@@ -1,4 +1,5 @@
 // The reader: a handle by value with the bytes of a packet that is not whole yet; it is started, stepped, and handed back.
+// A handle, its table and its index are three borrows side by side: one struct of the three costs a quote 25 instructions.
 #![tactic(auto)]
 
 ghost use Rattle.std.specs.Prelude.{◌≡◌, true, cond, length};
@@ -71,7 +72,8 @@ pub struct Texts {
 }
 
 // The handle. `held` up to `used` are the bytes of a packet that is not whole yet; `refusal` is the number of the refusal that
-// stands, 0 for none.
+// stands, 0 for none: a byte of the handle, as `head_bytes` lays it. `head` and `with` go between this and `Head`: its fields are
+// named here, and not a head within, since the promises of every call name them so.
 #[derive(Clone, Copy)]
 pub struct Reader {
     pub line: Line,
@@ -90,7 +92,7 @@ pub enum StepAnswer {
     Refused(Refusal),
 }
 
-// The reader is handed back, with the count of bytes taken.
+// The reader is handed back, with the count of bytes taken, also where it refuses: `Stepping` promises each.
 #[derive(Clone, Copy)]
 pub struct Stepped {
     pub reader: Reader,
@@ -108,7 +110,7 @@ pub enum Why {
     More,
 }
 
-// The reader is handed back, with the bytes taken and the packets finished.
+// The reader is handed back, with the bytes taken and the packets finished, also where it refuses: `Running` promises each.
 #[derive(Clone, Copy)]
 pub struct Ran {
     pub reader: Reader,
@@ -117,13 +119,14 @@ pub struct Ran {
     pub why: Why,
 }
 
+// The reader is fresh, also where the start is refused: `Starting` promises both.
 #[derive(Clone, Copy)]
 pub struct Started {
     pub reader: Reader,
     pub answer: Result<(), Refusal>,
 }
 
-// An image is accepted, or refused by name; then the reader is fresh.
+// An image is accepted, or refused by name; then the reader is fresh, which `Restores` promises beside the refusal.
 #[derive(Clone, Copy)]
 pub struct Restored {
     pub reader: Reader,
@@ -165,7 +168,7 @@ fn straight(handle: &mut [u8], rows: usize, table: &mut [u8], index: &mut [u8], 
 // A step that its index led astray is undone: nothing is taken, no refusal stands, and what was held is held. `number` is its number.
 fn heeded(number: u32, used: usize, handle: &mut [u8]) -> u32
     requires { length handle.old ≡ handle_size }
-    ensures value { result ≡ cond (is_astray number) 2_068 number }
+    ensures number { result ≡ cond (is_astray number) 2_068 number }
     ensures handle_after { handle.new ≡ cond (is_astray number) (held_again used handle.old) handle.old }
 {
     if number % told::BYTE_TAKEN != told::UNFIT {

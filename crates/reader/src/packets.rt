@@ -27,7 +27,7 @@ fn log_in(handle: &mut [u8], body: &[u8])
 fn other(handle: &mut [u8], letter: u8, body: &[u8]) -> u32
     requires { ((t : Memories) × Ready handle.old t) × (is_message (packet_of (head_of handle.old).line letter body.now) ≡ false) }
     ensures closes { (t : Memories) → left result handle.new t ≡ closed_as (soup_bin_tcp deliver (session_at handle.old t) letter body.now) handle.old }
-    ensures upper_bound { result < 65_536 }
+    ensures low_half { result < 65_536 }
 {
     let head = handle::read_head(handle);
     match packet::judge(head.line, letter, body) {
@@ -61,7 +61,7 @@ pub fn act(
 ) -> u32
     requires { Ready handle.old (memories table.old index.old) × (rows ≡ (head_of handle.old).board.rows) }
     ensures closes { left result handle.new (memories table.new index.new) ≡ closed_as (soup_bin_tcp deliver (session_at handle.old (memories table.old index.old)) letter body.now) handle.old }
-    ensures upper_bound { result < 65_536 }
+    ensures low_half { result < 65_536 }
 {
     let next = handle::next(handle);
     if packet::is_message(handle::logged(handle), next, letter) {

@@ -32,7 +32,7 @@ impl From<Refusal> for u8 {
     }
 }
 
-// The refusal of that number, of those that may stand and 27.
+// The refusal of that number, of those that may stand and 27. Any other number is `Unfit`, so this is no faithful `From<u8>`.
 pub fn named(n: u8) -> Refusal
     ensures { result ≡ named n }
 {

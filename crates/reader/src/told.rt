@@ -14,6 +14,7 @@ ghost use Rattle.reader.specs.Shapes.{Tellable, told_by, read_back, beside, quie
 use crate::{Event, Refusal, StepAnswer, Texts, Why, no_text, refusals};
 use packet::SESSION_SIZE;
 
+// These are numbers and no enum: C reads them, and `HostSteps` and `HostRuns` name them.
 pub const LOGIN: u32 = 256;
 
 pub const REJECTED: u32 = 512;
@@ -49,7 +50,7 @@ pub const SESSION_AT: usize = 8;
 // A packet is refused, and the refusal stands.
 pub fn refuse(refusal: Refusal, handle: &mut [u8]) -> u32
     requires { length handle.old ≡ handle_size }
-    ensures value { result ≡ 2048 + refusal_number refusal }
+    ensures number { result ≡ 2048 + refusal_number refusal }
     ensures handle_after { handle.new ≡ with_field refusal_field (refusal_number refusal) handle.old }
 {
     let number = u8::from(refusal);
@@ -92,7 +93,7 @@ pub fn tell(number: u32, handle: &[u8], bytes: &[u8], event: &mut [u8])
     }
 }
 
-// An answer by name, and the texts beside it.
+// An answer by name, and the texts beside it: `Stepping` promises zeros in the texts of an answer that has none, a refusal too.
 #[derive(Clone, Copy)]
 pub struct Heard {
     pub answer: StepAnswer,

@@ -14,11 +14,11 @@ refuse-requires c =
     search (handle-length c.args.handle.now c.requires.0.going.handle-is, rules)
 
 pub returns-in-Err : goal.returns-in-Err
-returns-in-Err c = let memory : Memories = memories c.args.table.now c.args.index.now in record { closes = message-refused c.args.handle.now memory c.requires.0 _ _ _ c.args.body.now c.tried.ensures c.in-Err.r c.in-Err.is c.refuse.ensures.value c.refuse.ensures.handle_after; upper_bound = omega (arith, c.refuse.ensures.value, number-low c.in-Err.r) }
+returns-in-Err c = let memory : Memories = memories c.args.table.now c.args.index.now in record { closes = message-refused c.args.handle.now memory c.requires.0 _ _ _ c.args.body.now c.tried.ensures c.in-Err.r c.in-Err.is c.refuse.ensures.number c.refuse.ensures.handle_after; low_half = omega (arith, c.refuse.ensures.number, number-low c.in-Err.r) }
 
 pub put_next-requires : goal.put_next-requires
 put_next-requires c =
     search (handle-length c.args.handle.now c.requires.0.going.handle-is, rules)
 
 pub returns : goal.returns
-returns c = let memory : Memories = memories c.args.table.now c.args.index.now in record { closes = message-done c.args.handle.now memory c.requires.0 _ _ _ c.args.body.now c.tried.ensures _ (search rules) (c.number_after.ensures ∙ ap number_after c.requires.1.1.0) c.put_next.ensures; upper_bound = omega arith }
+returns c = let memory : Memories = memories c.args.table.now c.args.index.now in record { closes = message-done c.args.handle.now memory c.requires.0 _ _ _ c.args.body.now c.tried.ensures _ (search rules) (c.number_after.ensures ∙ ap number_after c.requires.1.1.0) c.put_next.ensures; low_half = omega arith }
