@@ -6,11 +6,11 @@ use mathlib.Core.List.{List, [], ◌∷◌, ◌++◌}
 use Prim.Native.Nat.{ℕ, ◌≤◌}
 use native.Mathlib.Omega.{arith}
 use lib.Dec.{eqb, leb}
-use lib.ListN.{length, replicate}
+use lib.ListN.{length}
 use borrow.Author.Tests.{eq-eqb, ne_eqb}
 use mir.Val.{bool_byte}
 use Rattle.field.specs.Bytes.{part, overlay, digits, be, bytes_be}
-use Rattle.field.proofs.Parts.{part_length, part-whole, overlay-whole, overlay-next}
+use Rattle.field.proofs.Parts.{part_length, overlay-next}
 use Rattle.field.proofs.Numbers.{Lent, lent-bytes, rewrites}
 use Rattle.field.proofs.Writes.{piece, run-joined}
 use Rattle.message.specs.Layout.{values, keeps_all, bytes_for}

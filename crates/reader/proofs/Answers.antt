@@ -1,18 +1,14 @@
 -- An answer that the code reads back, by its kind.
 -- Assumes nothing.
-use mathlib.Core.Path.{◌≡◌, sym, ◌∙◌}
+use mathlib.Core.Path.{◌≡◌}
 use mathlib.Core.List.{List}
 use Prim.Native.Nat.{ℕ, ◌%◌}
-use native.Mathlib.Omega.{arith}
 use borrow.Author.Tests.{ne_eqb}
-use lib.ListN.{length, length-replicate, replicate}
-use Rattle.field.specs.Bytes.{part, overlay, be}
-use Rattle.field.proofs.Parts.{part_length, overlay-whole}
+use Rattle.field.specs.Bytes.{part, be}
 use Rattle.message.specs.Letters.{no_texts}
 use Rattle.message.specs.declared.Texts as message
 use Rattle.packet.specs.Stream as stream
 use Rattle.packet.specs.Session as packets
-use Rattle.record.specs.Places.{record_size}
 use Rattle.record.specs.Record.{record_of}
 use Rattle.record.specs.declared.Held.{Held}
 use Rattle.message.specs.declared.Message.{Message}

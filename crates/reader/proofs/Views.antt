@@ -1,15 +1,13 @@
 -- A reader and the bytes that it is: the state, the head and the places that stand in a handle.
 -- Assumes nothing.
-use mathlib.Core.Path.{◌≡◌, refl, sym, ap, ◌∙◌}
+use mathlib.Core.Path.{◌≡◌, refl, ap, ◌∙◌}
 use mathlib.Core.Bool.{Bool, true, false, cond}
 use mathlib.Core.List.{List}
 use Prim.Native.Nat.{ℕ}
-use native.Mathlib.Omega.{arith}
 use borrow.Author.Tests.{eqb-true}
 use lib.Dec.{eqb}
 use lib.ListN.{length}
-use Rattle.field.specs.Bytes.{part, overlay}
-use Rattle.field.proofs.Parts.{part_length, part-whole, overlay-whole}
+use Rattle.field.specs.Bytes.{overlay}
 use Rattle.packet.specs.Stream.{State, live, ended, refused}
 use Rattle.packet.specs.Session.{Session}
 use Rattle.packet.specs.Frame.{held_size}

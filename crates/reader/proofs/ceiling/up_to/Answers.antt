@@ -1,7 +1,6 @@
 -- `reader::ceiling::up_to` meets its contract.
 use borrow.Author.Rules.{rules}
 use native.Mathlib.Omega.{arith}
-use mathlib.Core.Path.{refl}
 use Rattle.field.specs.Bytes.{Bytes}
 use Rattle.field.proofs.Numbers.{lent-bytes}
 use Rattle.handle.proofs.Rounds.{handle-length}

@@ -1,7 +1,7 @@
 -- `reader::deliver::apply` meets its contract.
 use native.Mathlib.Omega.{arith}
 use borrow.Author.Rules.{rules}
-use mathlib.Core.Path.{◌≡◌, ◌∙◌}
+use mathlib.Core.Path.{◌≡◌}
 use lib.ListN.{get_or}
 use Rattle.message.specs.Test.{quote_length}
 use Rattle.handle.proofs.Rounds.{handle-length}
