@@ -6,10 +6,11 @@ use mathlib.Core.List.{List, [], ◌∷◌, ◌++◌}
 use Prim.Native.Nat.{ℕ, ◌≤◌}
 use native.Mathlib.Omega.{arith}
 use lib.Dec.{eqb, leb}
-use lib.ListN.{length, replicate}
+use lib.ListN.{length}
 use borrow.Author.Tests.{eq-eqb, ne_eqb}
+use mir.Val.{bool_byte}
 use Rattle.field.specs.Bytes.{part, overlay, digits, be, bytes_be}
-use Rattle.field.proofs.Parts.{part_length, part-whole, overlay-whole, overlay-next}
+use Rattle.field.proofs.Parts.{part_length, overlay-next}
 use Rattle.field.proofs.Numbers.{Lent, lent-bytes, rewrites}
 use Rattle.field.proofs.Writes.{piece, run-joined}
 use Rattle.message.specs.Layout.{values, keeps_all, bytes_for}
@@ -32,10 +33,15 @@ pub flags-judged : (bs : List ℕ) {known logged ended : ℕ} → length bs ≡ 
 unfolding is_handle values keeps_all
 flags-judged bs l a b c = rw (eq-eqb (length bs) handle_size l, a, b, c, ← and-true (leb (be (part bs 44 1)) 1))
 
+-- the byte of a flag
+byte-flag : (b : Bool) → bool_byte b ≡ flag b
+byte-flag true = refl
+byte-flag false = refl
+
 -- ---- read
 
 pub head_read : (bs : List ℕ) {session : List ℕ} {known logged next rows event live ended refusal used : ℕ} → length bs ≡ handle_size
-    → session ≡ overlay (replicate 10 0) 0 (part bs 32 10) → known ≡ be (part bs 42 1) → logged ≡ be (part bs 43 1) → next ≡ be (part bs 0 8)
+    → session ≡ part bs 32 10 → known ≡ be (part bs 42 1) → logged ≡ be (part bs 43 1) → next ≡ be (part bs 0 8)
     → rows ≡ be (part bs 16 8) → event ≡ be (part bs 46 1) → live ≡ be (part bs 8 8)
     → ended ≡ be (part bs 44 1) → refusal ≡ be (part bs 45 1) → used ≡ be (part bs 24 8)
     → record {
@@ -47,9 +53,8 @@ pub head_read : (bs : List ℕ) {session : List ℕ} {known logged next rows eve
     } ≡ head_of bs
 unfolding head_of values
 head_read bs len s k l n r e v d f u =
-    let t = s ∙ overlay-whole (replicate 10 0) (part bs 32 10) (part_length bs 32 10 (omega arith)) in
     λ i. record {
-      line = record { session = t i; known = eqb (k i) 1; logged = eqb (l i) 1; next = n i };
+      line = record { session = s i; known = eqb (k i) 1; logged = eqb (l i) 1; next = n i };
       board = record { rows = r i; event = e i; live = v i };
       ended = eqb (d i) 1;
       refusal = f i;
@@ -106,22 +111,22 @@ module _ (xs : List ℕ) (h : Head) (len : length xs ≡ handle_size) where
       (piece 8 (bytes_be 8 h.board.live) ∷ piece 8 (bytes_be 8 h.board.rows) ∷ piece 8 (bytes_be 8 h.used) ∷ [])
       (refl, (refl, (refl, (refl, tt)))) (omega arith) a (vs, b, (ws, c, (zs, d, refl)))
 
-  pub marks-put : {known logged ended : ℕ} {us vs ws ys zs : List ℕ} → known ≡ flag h.line.known → us ≡ overlay xs 42 (bytes_be 1 known)
-      → logged ≡ flag h.line.logged → vs ≡ overlay us 43 (bytes_be 1 logged) → ended ≡ flag h.ended → ws ≡ overlay vs 44 (bytes_be 1 ended)
+  pub marks-put : {known logged ended : ℕ} {us vs ws ys zs : List ℕ} → known ≡ bool_byte h.line.known → us ≡ overlay xs 42 (bytes_be 1 known)
+      → logged ≡ bool_byte h.line.logged → vs ≡ overlay us 43 (bytes_be 1 logged) → ended ≡ bool_byte h.ended → ws ≡ overlay vs 44 (bytes_be 1 ended)
       → ys ≡ overlay ws 45 (bytes_be 1 h.refusal) → zs ≡ overlay ys 46 (bytes_be 1 h.board.event)
       → zs ≡ overlay xs 42 (mark_bytes h)
   unfolding mark_bytes bytes_for digits
   marks-put {known} {logged} {ended} {us} {vs} {ws} {ys} {zs} k a l b e c d f =
       run-joined xs 42 (piece 1 (bytes_be 1 (flag h.line.known)))
       (piece 1 (bytes_be 1 (flag h.line.logged)) ∷ piece 1 (bytes_be 1 (flag h.ended)) ∷ piece 1 (bytes_be 1 h.refusal) ∷ piece 1 (bytes_be 1 h.board.event) ∷ [])
-      (refl, (refl, (refl, (refl, (refl, tt))))) (omega arith) (a ∙ ap (λ (n : ℕ). overlay xs 42 (bytes_be 1 n)) k)
-      (vs, b ∙ ap (λ (n : ℕ). overlay us 43 (bytes_be 1 n)) l, (ws, c ∙ ap (λ (n : ℕ). overlay vs 44 (bytes_be 1 n)) e, (ys, d, (zs, f, refl))))
+      (refl, (refl, (refl, (refl, (refl, tt))))) (omega arith) (a ∙ ap (λ (n : ℕ). overlay xs 42 (bytes_be 1 n)) (k ∙ byte-flag h.line.known))
+      (vs, b ∙ ap (λ (n : ℕ). overlay us 43 (bytes_be 1 n)) (l ∙ byte-flag h.line.logged), (ws, c ∙ ap (λ (n : ℕ). overlay vs 44 (bytes_be 1 n)) (e ∙ byte-flag h.ended), (ys, d, (zs, f, refl))))
 
   pub head-put : {us vs zs : List ℕ} → length h.line.session ≡ 10 → us ≡ overlay xs 0 (number_bytes h)
-      → vs ≡ overlay us 32 (part h.line.session 0 10) → zs ≡ overlay vs 42 (mark_bytes h)
+      → vs ≡ overlay us 32 h.line.session → zs ≡ overlay vs 42 (mark_bytes h)
       → zs ≡ overlay xs 0 (head_bytes h)
   unfolding head_bytes number_bytes mark_bytes bytes_for digits
   head-put {us} {vs} {zs} ten a b c =
       run-joined xs 0 (piece 32 (number_bytes h)) (piece 10 h.line.session ∷ piece 5 (mark_bytes h) ∷ [])
       (refl, (ten, (refl, tt))) (omega arith) a
-      (vs, b ∙ ap (overlay us 32) (part-whole h.line.session 10 ten), (zs, c, refl))
+      (vs, b, (zs, c, refl))

@@ -3,7 +3,7 @@
 
 ghost use Rattle.std.specs.Prelude.{◌≡◌, ◌++◌, ◌≤◌, length};
 ghost use Rattle.field.specs.Bytes.{overlay, bytes_be};
-ghost use Rattle.handle.specs.Handle.{handle_size, is_handle, head_of, head_bytes, flag, number_bytes, mark_bytes, next_field, live_field, rows_field, used_field, ended_field, refusal_field, event_field, with_field};
+ghost use Rattle.handle.specs.Handle.{handle_size, is_handle, head_of, head_bytes, number_bytes, mark_bytes, next_field, live_field, rows_field, used_field, ended_field, refusal_field, event_field, with_field};
 
 use packet::Line;
 use table::Board;
@@ -40,7 +40,7 @@ pub struct Head {
     pub line: Line,
     pub board: Board,
     pub ended: bool,
-    // The number of the refusal that stands, 0 for none.
+    // The number of the refusal that stands, 0 for none: a byte of the handle, as `head_bytes` lays it.
     pub refusal: u8,
     // How many bytes are held.
     pub used: usize,
@@ -62,10 +62,8 @@ pub fn read_head(bytes: &[u8]) -> Head
     requires { length bytes.now ≡ handle_size }
     ensures { result ≡ head_of bytes.now }
 {
-    let mut session = [0u8; packet::SESSION_SIZE];
-    field::copy(bytes, SESSION, packet::SESSION_SIZE, &mut session, 0);
     let line = Line {
-        session,
+        session: field::bytes::<{ packet::SESSION_SIZE }>(bytes, SESSION),
         known: field::read::<u8>(bytes, KNOWN) == 1,
         logged: field::read::<u8>(bytes, LOGGED) == 1,
         next: field::read::<u64>(bytes, NEXT),
@@ -84,12 +82,6 @@ pub fn read_head(bytes: &[u8]) -> Head
     }
 }
 
-fn flag(b: bool) -> u8
-    ensures { result ≡ flag b }
-{
-    if b { 1 } else { 0 }
-}
-
 // The four numbers of eight bytes at the front.
 fn put_numbers(h: Head, out: &mut [u8])
     requires { length out.old ≡ handle_size }
@@ -106,9 +98,9 @@ fn put_marks(h: Head, out: &mut [u8])
     requires { length out.old ≡ handle_size }
     ensures { out.new ≡ overlay out.old 42 (mark_bytes h) }
 {
-    field::write::<u8>(out, KNOWN, flag(h.line.known));
-    field::write::<u8>(out, LOGGED, flag(h.line.logged));
-    field::write::<u8>(out, ENDED, flag(h.ended));
+    field::write::<u8>(out, KNOWN, u8::from(h.line.known));
+    field::write::<u8>(out, LOGGED, u8::from(h.line.logged));
+    field::write::<u8>(out, ENDED, u8::from(h.ended));
     field::write::<u8>(out, REFUSAL, h.refusal);
     field::write::<u8>(out, EVENT, h.board.event);
 }
@@ -118,14 +110,12 @@ pub fn put_head(h: Head, out: &mut [u8])
     requires { length out.old ≡ handle_size }
     ensures { out.new ≡ overlay out.old 0 (head_bytes h) }
 {
-    let line = h.line;
-    let session = line.session;
     put_numbers(h, out);
-    field::copy(&session, 0, packet::SESSION_SIZE, out, SESSION);
+    field::put::<{ packet::SESSION_SIZE }>(out, SESSION, &h.line.session);
     put_marks(h, out);
 }
 
-// ---- single fields, where the handle lies
+// ---- single fields, where the handle lies: a function for each, since the clause of each names its own field of `head_of`
 
 pub fn next(bytes: &[u8]) -> u64
     requires { length bytes.now ≡ handle_size }

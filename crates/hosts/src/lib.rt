@@ -1,5 +1,5 @@
 // Demand 3 and the moves of saved tables for a host in C, as theorems over the promises of its calls: see specs/ and proofs/. The code here is such a host's own calls, so that
-// what the theorems ask of a call is what the library promises.
+// what the theorems ask of a call is what the library promises: a function for each call of C's, with the parameters of that call.
 #![tactic(auto)]
 
 ghost use Rattle.table.specs.Memory.{memories};

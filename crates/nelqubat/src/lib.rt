@@ -1,4 +1,5 @@
-// The calls for C: numbers and lent bytes only. Each answers a number whose low byte is the refusal, 0 for none.
+// The calls for C: numbers and lent bytes only. Each answers a number whose low byte is the refusal, 0 for none, so answers by name become
+// numbers here, and a handle, its table and its index come as three borrows.
 #![tactic(auto)]
 
 ghost use Rattle.std.specs.Prelude.{◌≡◌, ◌≤◌, [], length, take};
@@ -77,12 +78,10 @@ pub fn nelqubat_start(handle: &mut [u8], table: &mut [u8], index: &mut [u8]) -> 
         return 20;
     }
     let started = Reader::start(table, index);
-    let reader = started.reader;
-    let answer = started.answer;
-    put_unheld(reader.head(), handle);
-    match answer {
+    put_unheld(started.reader.head(), handle);
+    match started.answer {
         Ok(()) => 0,
-        Err(r) => reader::refusals::number(r) as u32,
+        Err(r) => u8::from(r) as u32,
     }
 }
 
@@ -136,7 +135,8 @@ pub fn nelqubat_save(handle: &[u8], table: &[u8], out: &mut [u8]) -> u32
     saved_number(Reader::read(handle).save(table, out))
 }
 
-// An image of version 1 or 2 as version 3, to the front of `out`; the answer is as of saving.
+// An image of version 1 or 2 as version 3, to the front of `out`; the answer is as of saving. This and `nelqubat_back` are two names of C's
+// for one function of two ways.
 pub fn nelqubat_forward(image: &[u8], out: &mut [u8]) -> u32
     ensures { HostMoves Forward image.now out.old result out.new }
 {
@@ -168,10 +168,8 @@ pub fn nelqubat_restore(handle: &mut [u8], table: &mut [u8], index: &mut [u8], s
         return 20;
     }
     let restored = Reader::restore(saved, table, index);
-    let reader = restored.reader;
-    let verdict = restored.verdict;
-    put_unheld(reader.head(), handle);
-    verdict_number(verdict)
+    put_unheld(restored.reader.head(), handle);
+    verdict_number(restored.verdict)
 }
 
 // A message's bytes read to its record.
@@ -196,8 +194,7 @@ fn put_line(text: Text, size: usize, out: &mut [u8]) -> u32
     if out.len() < size {
         return 25;
     }
-    let bytes = text.text;
-    field::copy(&bytes, 0, size, out, 0);
+    field::copy(&text.text, 0, size, out, 0);
     size as u32 * 256
 }
 
@@ -206,8 +203,7 @@ fn put_shown(text: Text, out: &mut [u8]) -> u32
     requires { Short text.shown }
     ensures { answered result out.new ≡ shown_to text out.old }
 {
-    let shown = text.shown;
-    match shown {
+    match text.shown {
         Shown::Line(size) => put_line(text, size, out),
         Shown::Past => 0,
         Shown::Unfit => 20,

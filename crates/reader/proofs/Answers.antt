@@ -1,18 +1,14 @@
 -- An answer that the code reads back, by its kind.
 -- Assumes nothing.
-use mathlib.Core.Path.{◌≡◌, sym, ◌∙◌}
+use mathlib.Core.Path.{◌≡◌}
 use mathlib.Core.List.{List}
 use Prim.Native.Nat.{ℕ, ◌%◌}
-use native.Mathlib.Omega.{arith}
 use borrow.Author.Tests.{ne_eqb}
-use lib.ListN.{length, length-replicate, replicate}
-use Rattle.field.specs.Bytes.{part, overlay, be}
-use Rattle.field.proofs.Parts.{part_length, overlay-whole}
+use Rattle.field.specs.Bytes.{part, be}
 use Rattle.message.specs.Letters.{no_texts}
 use Rattle.message.specs.declared.Texts as message
 use Rattle.packet.specs.Stream as stream
 use Rattle.packet.specs.Session as packets
-use Rattle.record.specs.Places.{record_size}
 use Rattle.record.specs.Record.{record_of}
 use Rattle.record.specs.declared.Held.{Held}
 use Rattle.message.specs.declared.Message.{Message}
@@ -30,14 +26,11 @@ use Rattle.std.specs.Prelude.{Some}
 
 -- ---- what stands in event memory
 
-pub login-heard : (memory session : List ℕ) (n : ℕ) (t : message.Texts) → length memory ≡ record_size
-    → session ≡ overlay (replicate 10 0) 0 (part memory 8 10) → n ≡ be (part memory 0 8) → t ≡ no_texts
+pub login-heard : (memory session : List ℕ) (n : ℕ) (t : message.Texts)
+    → session ≡ part memory 8 10 → n ≡ be (part memory 0 8) → t ≡ no_texts
     → read_back (record { answer = answer.Event (event.Login n); texts = record { session = session; message = t } })
     ≡ beside (stream.Event (packets.login (be (part memory 0 8)) (part memory 8 10)))
-login-heard memory session n t l e f g =
-    let ten : length (part memory 8 10) ≡ 10 = part_length memory 8 10 (omega (arith, l)) in
-    let s : session ≡ part memory 8 10 = e ∙ overlay-whole (replicate 10 0) (part memory 8 10) (ten ∙ sym (length-replicate {A = ℕ} 10 0)) in
-    rw (s, f, g)
+login-heard memory session n t e f g = rw (e, f, g)
 
 module _ (memory : List ℕ) (x : Held) (e : x ≡ record_of memory) where
   pub message-heard : (m : Message) → x.taken ≡ Some m

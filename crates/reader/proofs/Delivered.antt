@@ -1,10 +1,10 @@
 -- The ways through a message that is delivered where its bytes lie: tested, applied to its row, its record written, its number counted.
 -- Assumes nothing.
 use mathlib.Core.Path.{◌≡◌, refl, sym, ap, ◌∙◌}
-use mathlib.Core.Bool.{true}
+use mathlib.Core.Bool.{Bool, true, false, not}
 use mathlib.Core.Logic.{◌⊎◌, inl, inr}
-use mathlib.Core.List.{List}
-use Prim.Native.Nat.{ℕ, ◌+◌, ◌*◌, ◌≤◌, ◌<◌}
+use mathlib.Core.List.{List, [], ◌∷◌}
+use Prim.Native.Nat.{ℕ, ◌+◌, ◌*◌, ◌<◌}
 use native.Mathlib.Decide.{ℕ_discrete}
 use native.Mathlib.Omega.{arith}
 use lib.ListN.{length, get_or}
@@ -12,18 +12,21 @@ use Rattle.field.specs.Bytes.{part, be}
 use Rattle.field.proofs.Parts.{part_length}
 use Rattle.field.proofs.Numbers.{Lent, lent-bytes}
 use Rattle.message.specs.Layout.{values}
-use Rattle.message.specs.Feed.{letter_among}
+use Rattle.message.specs.Feed.{letter_among, listed_length, bytes_read}
 use Rattle.message.specs.Letters.{letters, letter_in, end_of_replay_rows, end_of_replay_of}
 use Rattle.message.specs.Message as messages
 use Rattle.message.specs.Message.{accepted, read_of, read_as}
-use Rattle.message.specs.Test.{tested_as, tested, quote_letters, quote_length}
+use Rattle.message.specs.Test as tests
+use Rattle.message.specs.Test.{tested_as, tested, checked_as, checked, quote_letters, quote_length}
 use Rattle.message.specs.declared.Message.{Message}
 use Rattle.message.specs.declared.Texts.{Texts}
 use Rattle.message.specs.declared.Reading.{Reading}
 use Rattle.message.specs.declared.Refusal as message_refusal
 use Rattle.message.specs.declared.Refusal.TheVariants as message_refusals
-use Rattle.message.proofs.Tested.{test-empty, test-some}
+use Rattle.message.proofs.Tested.{test-empty}
+use Rattle.message.proofs.Feeds.{unlisted_length}
 use Rattle.packet.specs.Frame.{held_size}
+use Rattle.packet.proofs.Rules.{never}
 use Rattle.packet.specs.Numbering.{number_after}
 use Rattle.packet.specs.Session.{Delivered, done, denied, delivered}
 use Rattle.table.specs.Memory.{Memories}
@@ -45,11 +48,18 @@ use Rattle.handle.proofs.Laid.{handle-back}
 use Rattle.handle.proofs.Single.{next-put, live-put, rows-put, refusal-put, event-put}
 use Rattle.reader.specs.Deliver.{Table, table_of, table_by, Said, said, settled_by, settled, heard, deliver}
 use Rattle.reader.specs.Calls.{verdict_number}
+use Rattle.reader.specs.Refusals.{refusal_number, number_in}
+use Rattle.reader.specs.declared.Refusal as own_refusal
+use Rattle.reader.proofs.Ways.{some_number}
+use borrow.Author.Tests.{eqb-false}
 use Rattle.reader.specs.Handles.{event_number, told_number, Left, left}
 use Rattle.reader.specs.Shapes.{Going, Ready, closed_as, applied_as, tried_as}
 use Rattle.std.specs.Prelude.{Err}
 use Rattle.std.specs.Prelude.{Ok}
 use Rattle.std.specs.Prelude.{Result}
+use Rattle.std.specs.Prelude.{Option}
+use Rattle.std.specs.Prelude.{None}
+use Rattle.std.specs.Prelude.{is_some}
 use Rattle.message.specs.declared.Refusal.{Refusal}
 
 -- ---- a handle as head and places
@@ -66,9 +76,11 @@ module _ (handle : List ℕ) (is : is_handle handle ≡ true) where
 
 -- ---- the test
 
-pub tested-by : (bs : List ℕ) (letter : ℕ) {r : ℕ} → (length bs ≡ 0 → ⊥) → letter ≡ get_or bs 0 0 → r ≡ tested (read_as (letter_in letters letter) bs)
-    → r ≡ tested (read_of bs)
-tested-by bs letter some e p = test-some bs some (rw e at p)
+pub checked-by : (bs : List ℕ) (letter : ℕ) {v : Result (Unit {0}) Refusal} → (length bs ≡ 0 → ⊥) → letter ≡ get_or bs 0 0
+    → v ≡ checked (read_as (letter_in letters letter) bs) → v ≡ checked (read_of bs)
+unfolding read_of read_as bytes_read
+checked-by [] letter some e p = absurd (some refl)
+checked-by (c ∷ bs) letter some e p = p ∙ ap (λ (x : ℕ). checked (read_as (letter_in letters x) (c ∷ bs))) e
 
 read_some : (x : message_refusal.Refusal) → messages.refusal_number x ≡ 0 → ⊥
 read_some message_refusals.UnknownLetter e = omega arith
@@ -86,14 +98,20 @@ passed r = by r.answer refl
     by (Ok m) f g = (m, r.texts, λ i. record { answer = f i; texts = r.texts })
     by (Err x) f g = absurd (read_some x g)
 
-pub tested_low : (bs : List ℕ) {n : ℕ} → n ≡ tested (read_of bs) → n ≤ 12
-tested_low bs e = rw e (by (read_of bs).answer)
-  where
-    by : (a : Result Message Refusal) → tested_as a ≤ 12
-    by (Ok m) = omega arith
-    by (Err message_refusals.UnknownLetter) = omega arith
-    by (Err message_refusals.WrongLength) = omega arith
-    by (Err message_refusals.BadField) = omega arith
+-- its number is 0, or that of the refusal
+module _ (bs : List ℕ) {v : Result (Unit {0}) Refusal} (e : v ≡ checked (read_of bs)) where
+  tested-number : tests.number_in v ≡ tested (read_of bs)
+  tested-number = ap tests.number_in e ∙ by (read_of bs).answer
+    where
+      by : (a : Result Message Refusal) → tests.number_in (checked_as a) ≡ tested_as a
+      by (Ok m) = refl
+      by (Err x) = refl
+
+  pub tested-passed : v ≡ Ok (tt {0}) → tested (read_of bs) ≡ 0
+  tested-passed f = sym tested-number ∙ ap tests.number_in f
+
+  tested-refused : {x : Refusal} → v ≡ Err x → messages.refusal_number x ≡ tested (read_of bs)
+  tested-refused f = sym (ap tests.number_in f) ∙ tested-number
 
 -- ---- what a message does, by its reading
 
@@ -175,14 +193,15 @@ module _ (handle : List ℕ) (table : Memories) (g : Going handle table) (lent :
   pub tried-empty : length body ≡ 0 → left 10 handle table ≡ tried_as (deliver here body) handle
   tried-empty e = refuses (test-empty body e) (λ z. omega arith)
 
-  pub tried-bad : {n : ℕ} → n ≡ tested (read_of body) → (n ≡ 0 → ⊥) → left n handle table ≡ tried_as (deliver here body) handle
-  tried-bad = refuses
+  pub tried-bad : {v : Result (Unit {0}) Refusal} {x : Refusal} (r : own_refusal.Refusal) → v ≡ checked (read_of body) → v ≡ Err x
+      → refusal_number r ≡ messages.refusal_number x → left (refusal_number r) handle table ≡ tried_as (deliver here body) handle
+  tried-bad r e f k = refuses (k ∙ tested-refused body e f) (eqb-false (refusal_number r) 0 (some_number r))
 
   -- what was promised of the message that the bytes are
-  module _ {n r : ℕ} (e : n ≡ tested (read_of body)) (z : n ≡ 0) (handle' : List ℕ) (table' : Memories)
+  module _ {v : Result (Unit {0}) Refusal} {r : ℕ} (e : v ≡ checked (read_of body)) (z : v ≡ Ok (tt {0})) (handle' : List ℕ) (table' : Memories)
       (a : (m : Message) (t : Texts) → read_of body ≡ accepted m t → left r handle' table' ≡ applied_as (effect (head_of handle).board m t table) handle) where
     is-message : Passed (read_of body)
-    is-message = passed (read_of body) (sym e ∙ z)
+    is-message = passed (read_of body) (tested-passed body e z)
 
     abbrev effect_is : Indexed
     effect_is = effect (head_of handle).board is-message.0 is-message.1 table
@@ -227,7 +246,7 @@ deliver-some : (t : Table) (body : List ℕ) → DeniedSome (deliver t body)
 unfolding deliver
 deliver-some t body = heard-some t (read_of body).texts (read_of body).answer
 
-module _ (handle : List ℕ) (table : Memories) (g : Ready handle table) (r : ℕ) (handle' : List ℕ) (table' : Memories) where
+module _ (handle : List ℕ) (table : Memories) (g : Ready handle table) (v : Result (Unit {0}) own_refusal.Refusal) (handle' : List ℕ) (table' : Memories) where
   abbrev h : Head
   h = head_of handle
 
@@ -238,26 +257,27 @@ module _ (handle : List ℕ) (table : Memories) (g : Ready handle table) (r : �
   ten = own-ten handle g.going.handle-is
 
   abbrev Tried : Delivered Table Said → Type 0
-  Tried d = left r handle' table' ≡ tried_as d handle
+  Tried d = left (number_in v) handle' table' ≡ tried_as d handle
 
   -- a refusal stands
-  refused_as : (d : Delivered Table Said) {a : ℕ} {handle'' : List ℕ} → Tried d → (r ≡ 0 → ⊥) → a ≡ 2048 + r → handle'' ≡ with_field refusal_field r handle'
+  refused_as : (d : Delivered Table Said) (r : own_refusal.Refusal) {a : ℕ} {handle'' : List ℕ} → Tried d → v ≡ Err r → a ≡ 2048 + refusal_number r
+      → handle'' ≡ with_field refusal_field (refusal_number r) handle'
       → left a handle'' table' ≡ closed_as (delivered h.line d) handle
   unfolding told_number
-  refused_as (done x t) w z f p = absurd (z (ap (λ (s : Left). s.number) w))
-  refused_as (denied n t) {a} w z f p =
-      let same : r ≡ n = ap (λ (s : Left). s.number) w in
-      let put = refusal-put (with_board t.board h) held ten (ap (λ (s : Left). s.handle) w) r p in
+  refused_as (done x t) r w z f p = absurd (eqb-false (refusal_number r) 0 (some_number r) (sym (ap number_in z) ∙ ap (λ (s : Left). s.number) w))
+  refused_as (denied n t) r {a} w z f p =
+      let same : refusal_number r ≡ n = sym (ap number_in z) ∙ ap (λ (s : Left). s.number) w in
+      let put = refusal-put (with_board t.board h) held ten (ap (λ (s : Left). s.handle) w) (refusal_number r) p in
       let count : a ≡ 2048 + n + 0 * 65_536 = omega (arith, f, same) in
       (λ i. left (count i) (put i) (w i).memory)
       ∙ (λ i. left (2048 + n + 0 * 65_536)
       (handle_bytes (record { line = h.line; board = t.board; ended = g.going.live i; refusal = same i; used = g.unheld i }) held) t.memory)
 
   -- an accepted message takes the next number
-  done-as : (d : Delivered Table Said) {handle'' : List ℕ} (next : ℕ) → DeniedSome d → Tried d → r ≡ 0 → next ≡ number_after h.line.next
+  done-as : (d : Delivered Table Said) {handle'' : List ℕ} (next : ℕ) → DeniedSome d → Tried d → v ≡ Ok (tt {0}) → next ≡ number_after h.line.next
       → handle'' ≡ with_field next_field next handle' → left 768 handle'' table' ≡ closed_as (delivered h.line d) handle
   unfolding told_number event_number
-  done-as (denied n t) next some w z f p = absurd (some (sym (ap (λ (s : Left). s.number) w) ∙ z))
+  done-as (denied n t) next some w z f p = absurd (some (sym (ap (λ (s : Left). s.number) w) ∙ ap number_in z))
   done-as (done x t) next some w z f p =
       let put = next-put (with_board t.board h) held ten (ap (λ (s : Left). s.handle) w) next p in
       (λ i. left 768 (put i) (w i).memory)
@@ -271,13 +291,21 @@ module _ (handle : List ℕ) (table : Memories) (g : Ready handle table) (r : �
       }) held) t.memory)
 
   module _ (body : List ℕ) (e : Tried (deliver (table_of h.board table) body)) where
-    pub message-refused : {a : ℕ} {handle'' : List ℕ} → (r ≡ 0 → ⊥) → a ≡ 2048 + r → handle'' ≡ with_field refusal_field r handle'
+    pub message-refused : (r : own_refusal.Refusal) {a : ℕ} {handle'' : List ℕ} → v ≡ Err r → a ≡ 2048 + refusal_number r
+        → handle'' ≡ with_field refusal_field (refusal_number r) handle'
         → left a handle'' table' ≡ closed_as (delivered h.line (deliver (table_of h.board table) body)) handle
-    message-refused = refused_as (deliver (table_of h.board table) body) e
+    message-refused r = refused_as (deliver (table_of h.board table) body) r e
 
-    pub message-done : {handle'' : List ℕ} (next : ℕ) → r ≡ 0 → next ≡ number_after h.line.next → handle'' ≡ with_field next_field next handle'
+    pub message-done : {handle'' : List ℕ} (next : ℕ) → v ≡ Ok (tt {0}) → next ≡ number_after h.line.next → handle'' ≡ with_field next_field next handle'
         → left 768 handle'' table' ≡ closed_as (delivered h.line (deliver (table_of h.board table) body)) handle
     message-done next = done-as (deliver (table_of h.board table) body) next (deliver-some (table_of h.board table) body) e
+
+-- a letter that has a quote's length is a quote's
+pub quote-some : (c : ℕ) {x : Option ℕ} {b : Bool} → x ≡ listed_length (letter_in quote_letters c) → is_some x ≡ not b → b ≡ false → quote_length c ≡ 0 → ⊥
+unfolding quote_length
+quote-some c {x} e k f z =
+    let none : None ≡ x = unlisted_length (letter_in quote_letters c) refl z ∙ sym e in
+    never (ap is_some none ∙ k ∙ ap not f)
 
 -- a quote's letter is neither S nor M
 module _ (c : ℕ) (some : quote_length c ≡ 0 → ⊥) where

@@ -116,7 +116,7 @@ name_back refusal.FixedField = refl
 name_back refusal.TableFull = refl
 name_back refusal.HighCeiling = refl
 
-number-low : (r : Refusal) → refusal_number r < 256
+pub number-low : (r : Refusal) → refusal_number r < 256
 number-low refusal.Unfit = lit< tt
 number-low refusal.BadPacketLength = lit< tt
 number-low refusal.UnknownPacket = lit< tt

@@ -103,17 +103,16 @@ module _ (handle : List ℕ) (r : (t : Memories) × Ready handle t) (lent : Lent
     unfolding told_number event_number
     other-skipped f t = ap (λ (x : List ℕ). left 1536 x t) idle-here ∙ acts t f
 
-    pub other-refused : {d : Fault} (x : Refusal) {n a : ℕ} {handle' : List ℕ} → p ≡ packet.Refused d → refusal_number x ≡ fault_number d → n ≡ refusal_number x
-        → a ≡ 2048 + n → handle' ≡ with_field refusal_field n handle → (t : Memories)
+    pub other-refused : {d : Fault} (x : Refusal) {a : ℕ} {handle' : List ℕ} → p ≡ packet.Refused d → refusal_number x ≡ fault_number d
+        → a ≡ 2048 + refusal_number x → handle' ≡ with_field refusal_field (refusal_number x) handle → (t : Memories)
         → left a handle' t ≡ closed_as (soup_bin_tcp deliver (session_at handle t) letter body) handle
     unfolding told_number
-    other-refused {d} x {n} {a} f k j m g t =
-        let same : n ≡ fault_number d = j ∙ k in
-        let put = refusal-put (idle h.line) held (own-ten handle is) idle-here n g in
-        let count : a ≡ 2048 + n + 0 * 65_536 = omega (arith, m) in
+    other-refused x {a} f k m g t =
+        let put = refusal-put (idle h.line) held (own-ten handle is) idle-here (refusal_number x) g in
+        let count : a ≡ 2048 + refusal_number x + 0 * 65_536 = omega (arith, m) in
         (λ i. left (count i) (put i) t)
-        ∙ (λ i. left (2048 + same i + 0 * 65_536)
-        (handle_bytes (record { line = h.line; board = h.board; ended = false; refusal = same i; used = 0 }) held) t)
+        ∙ (λ i. left (2048 + k i + 0 * 65_536)
+        (handle_bytes (record { line = h.line; board = h.board; ended = false; refusal = k i; used = 0 }) held) t)
         ∙ acts t f
 
     -- a message is none of them

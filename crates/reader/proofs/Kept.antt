@@ -36,10 +36,10 @@ use Rattle.image.specs.declared.Header.{Header}
 use Rattle.image.specs.declared.Refusal.TheVariants as images
 use Rattle.image.specs.declared.Restored as image
 use Rattle.image.proofs.Rounds.{restored-good}
-use Rattle.reader.specs.Refusals.{refusal_number, standing, standing_refusals, named_in, named}
+use Rattle.reader.specs.Refusals.{refusal_number, number_in, standing, standing_refusals, named_in, named}
 use Rattle.reader.specs.View.{reader_with, held_of, state_of, seen, still_of, ready_of}
 use Rattle.reader.specs.Limits.{is_short, unfinished, holds_unfinished, within_limits, may_step, lent_within, head_with}
-use Rattle.reader.specs.Calls.{step_in, step_all, Stepping, start_all, Starting}
+use Rattle.reader.specs.Calls.{step_in, step_all, Stepping, verdict_number, start_all, Starting}
 use Rattle.reader.specs.Handles.{reader_in, host_within, host_may_step}
 use Rattle.reader.specs.Saving.{header_of, written_by, save_all, Saves, line_of, index_after, restore_all, Restores}
 use Rattle.reader.specs.declared.Refusal.{Refusal}
@@ -48,7 +48,7 @@ use Rattle.reader.specs.declared.Reader.{Reader}
 use Rattle.reader.specs.declared.StepAnswer.TheVariants as answer
 use Rattle.std.specs.Prelude.{Err}
 use Rattle.std.specs.Prelude.{Ok}
-use Rattle.std.specs.Prelude.{Result}
+use Rattle.std.specs.Prelude.{Result, MatchResult, IsErrAnd}
 use Rattle.image.specs.declared.Refusal as image_refusal
 
 -- ---- what is held
@@ -62,13 +62,18 @@ module _ (r : Reader) where
   unfolding holds_unfinished unfinished
   held-short h e f = rw (le-leb r.used held_size h, short-there (held_of r) e f)
 
-  pub held-bad : {w : Framing} → r.used ≤ held_size → w ≡ front_of (frame (held_of r)) → w ≡ BadLength → false ≡ holds_unfinished r
+  held-bad : {w : Framing} → r.used ≤ held_size → w ≡ front_of (frame (held_of r)) → w ≡ BadLength → false ≡ holds_unfinished r
   unfolding holds_unfinished unfinished
   held-bad h e f = rw (le-leb r.used held_size h, (bad-there (held_of r) e f).is)
 
-  pub held_whole : {w : Framing} {n : ℕ} → r.used ≤ held_size → w ≡ front_of (frame (held_of r)) → w ≡ Whole n → false ≡ holds_unfinished r
+  held_whole : {w : Framing} {n : ℕ} → r.used ≤ held_size → w ≡ front_of (frame (held_of r)) → w ≡ Whole n → false ≡ holds_unfinished r
   unfolding holds_unfinished unfinished
   held_whole h e f = rw (le-leb r.used held_size h, (whole-there (held_of r) e f).is)
+
+  pub held-other : (w : Framing) → r.used ≤ held_size → w ≡ front_of (frame (held_of r)) → (w ≡ Short → ⊥) → false ≡ holds_unfinished r
+  held-other Short h e d = absurd (d refl)
+  held-other BadLength h e d = held-bad h e refl
+  held-other (Whole n) h e d = held_whole h e refl
 
 short-is : (f : Framed) → is_short f ≡ true → f ≡ short
 short-is short e = refl
@@ -301,16 +306,19 @@ module _ (r : Reader) (memory : Memories) (piece : List ℕ) (e : may_step r mem
 
 -- ---- the ways through starting
 
+answered : (v : Result (Unit {0}) table_refusal.Refusal) (x : Result (Unit {0}) Refusal)
+    → MatchResult v (λ u. x ≡ Ok u) (λ d. IsErrAnd x (λ y. refusal_number y ≡ tables.refusal_number d)) → number_in x ≡ verdict_number v
+answered (Ok u) x m = ap number_in m
+answered (Err d) (Ok u) m = absurd m
+answered (Err d) (Err y) m = m
+
 module _ (memory after : Memories) (a : Applied) (l : Line) (r : Reader) (e : beside after.index (outcome a after.table) ≡ start_of memory)
     (i : l ≡ fresh_line) (f : r ≡ ready_of l a.board) where
-  pub start-ready : a.verdict ≡ Ok (tt {0}) → Starting memory (record { reader = r; answer = (Ok (tt {0})) }) after
+  pub started : (x : Result (Unit {0}) Refusal)
+      → MatchResult a.verdict (λ u. x ≡ Ok u) (λ d. IsErrAnd x (λ y. refusal_number y ≡ tables.refusal_number d))
+      → Starting memory (record { reader = r; answer = x }) after
   unfolding start_all
-  start-ready g = rw (f, i, ← e, g)
-
-  pub start-refused : {d : table_refusal.Refusal} (x : Refusal) → a.verdict ≡ Err d → refusal_number x ≡ tables.refusal_number d
-      → Starting memory (record { reader = r; answer = Err x }) after
-  unfolding start_all
-  start-refused x g h = rw (f, i, ← e, g, h)
+  started x m = rw (f, i, ← e, ← answered a.verdict x m)
 
 -- ---- the ways through saving and restoring
 

@@ -222,7 +222,7 @@ module _ (n : ℕ) (handle₀ : List ℕ) (table₀ : Memories) (piece handle : 
       let w = may-within (reader_in handle) table (may-step handle table g.within) in
       sym (length-take-le (head_of handle).used (places_in handle) (omega (arith, own-long handle is, w.start))) ∙ ap length (sym (held_in_lem (reader_in handle) table))
 
-  pub run_ends : {w r : ℕ} → w ≡ stopped_number (head_of handle) → r ≡ w + finished * 65_536 + taken * 4_294_967_296
+  pub run_ends : {w r : ℕ} → w ≡ stopped_number (head_of handle) → r ≡ w + n * 65_536 + taken * 4_294_967_296
       → left r handle table ≡ ran_to (seen_run (run_by step_in n (state_of (reader_in handle₀) table₀) piece)) (places_in handle₀)
   unfolding run_by
   run_ends {w} {r} e f =
@@ -231,7 +231,7 @@ module _ (n : ℕ) (handle₀ : List ℕ) (table₀ : Memories) (piece handle : 
       = g.ran 0 (omega (arith, g.few, end)) in
       let why : w ≡ why_number (why_at_ceiling s)
       = e ∙ stopped-why (head_of handle) _ _ (eqb (head_of handle).refusal 0) (head_of handle).ended refl refl in
-      let z : finished ≡ finished + 0 = omega arith in
+      let z : n ≡ finished + 0 = omega (arith, g.few, end) in
       let t : taken ≡ taken + 0 = omega arith in
       let k : r ≡ why_number (why_at_ceiling s) + (finished + 0) * 65_536 + (taken + 0) * 4_294_967_296
       = f ∙ (λ i. why i + z i * 65_536 + t i * 4_294_967_296) in

@@ -1,15 +1,13 @@
 -- A reader and the bytes that it is: the state, the head and the places that stand in a handle.
 -- Assumes nothing.
-use mathlib.Core.Path.{◌≡◌, refl, sym, ap, ◌∙◌}
+use mathlib.Core.Path.{◌≡◌, refl, ap, ◌∙◌}
 use mathlib.Core.Bool.{Bool, true, false, cond}
 use mathlib.Core.List.{List}
 use Prim.Native.Nat.{ℕ}
-use native.Mathlib.Omega.{arith}
 use borrow.Author.Tests.{eqb-true}
 use lib.Dec.{eqb}
 use lib.ListN.{length}
-use Rattle.field.specs.Bytes.{part, overlay}
-use Rattle.field.proofs.Parts.{part_length, part-whole, overlay-whole}
+use Rattle.field.specs.Bytes.{overlay}
 use Rattle.packet.specs.Stream.{State, live, ended, refused}
 use Rattle.packet.specs.Session.{Session}
 use Rattle.packet.specs.Frame.{held_size}
@@ -65,16 +63,14 @@ pub reader-back : (h : Head) (held : List ℕ) → HeadFits h → length held �
 reader-back h held f l i = reader_with (laid-head h held f i) (laid-places h held f.session l i)
 
 -- read by the code: the places are copied, and the head is read
-pub reader-there : (handle blank held : List ℕ) (h : Head) (r : Reader) → length handle ≡ handle_size → length blank ≡ held_size → h ≡ head_of handle
-    → held ≡ overlay blank 0 (places_in handle) → r ≡ reader_with h held → r ≡ reader_in handle
-reader-there handle blank held h r l m e f g =
-    let n : length (places_in handle) ≡ held_size = part_length handle head_size held_size (omega (arith, l)) in
-    g ∙ ap (reader_with h) (f ∙ overlay-whole blank (places_in handle) (n ∙ sym m)) ∙ ap (λ (x : Head). reader_with x (places_in handle)) e
+pub reader-there : (handle held : List ℕ) (h : Head) (r : Reader) → h ≡ head_of handle → held ≡ places_in handle → r ≡ reader_with h held
+    → r ≡ reader_in handle
+reader-there handle held h r e f g = g ∙ ap (reader_with h) f ∙ ap (λ (x : Head). reader_with x (places_in handle)) e
 
 -- laid by the code: the places first, and then the head
 pub reader-laid : (r : Reader) (h : Head) (blank first all : List ℕ) → length r.line.session ≡ 10 → length r.held ≡ held_size
-    → length blank ≡ handle_size → h ≡ head_part r → first ≡ overlay blank head_size (part r.held 0 held_size)
+    → length blank ≡ handle_size → h ≡ head_part r → first ≡ overlay blank head_size r.held
     → all ≡ overlay first 0 (head_bytes h) → all ≡ handle_bytes (head_part r) r.held
 reader-laid r h blank first all ten l m e f g =
     put-over (head_part r) blank r.held first all ten m l
-    (f ∙ ap (overlay blank head_size) (part-whole r.held held_size l)) (g ∙ ap (λ (x : Head). overlay first 0 (head_bytes x)) e)
+    f (g ∙ ap (λ (x : Head). overlay first 0 (head_bytes x)) e)

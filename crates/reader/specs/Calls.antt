@@ -9,7 +9,7 @@ use Rattle.packet.specs.Line.{fresh_line}
 use Rattle.table.specs.Board as tables
 use Rattle.table.specs.Memory.{Memories}
 use Rattle.table.specs.Board.{Indexed, start_of}
-use Rattle.reader.specs.Refusals.{refusal_number}
+use Rattle.reader.specs.Refusals.{refusal_number, number_in}
 use Rattle.reader.specs.Deliver.{Table, Said, deliver, table_by}
 use Rattle.reader.specs.View.{no_text, state_of, Seen, seen_of, seen}
 use Rattle.reader.specs.Limits.{may_step}
@@ -83,8 +83,7 @@ verdict_number (Ok u) = 0
 verdict_number (Err r) = tables.refusal_number r
 
 abbrev pub start_number : Result (Unit {0}) reader_refusal.Refusal → ℕ
-start_number (Ok u) = 0
-start_number (Err r) = refusal_number r
+start_number a = number_in a
 
 abbrev pub begun_of : Started → Memories → Begun
 begun_of s memory =

@@ -1,6 +1,6 @@
 -- The refusals of a call by name, and document 01's number of each.
 -- Assumes nothing.
-use Rattle.std.specs.Prelude.{ℕ, Bool, ◌&&◌, ◌||◌, cond, List, [], ◌∷◌, eqb, leb}
+use Rattle.std.specs.Prelude.{ℕ, Bool, ◌&&◌, ◌||◌, cond, List, [], ◌∷◌, eqb, leb, Result, Ok, Err}
 use Rattle.reader.specs.declared.Refusal.{Refusal}
 use Rattle.reader.specs.declared.Refusal.TheVariants.{Unfit, BadPacketLength, UnknownPacket, WrongPlace, BadForm, NotNext, NumbersUsedUp, UnknownMessage, WrongLength, BadField, NoRow, NoQuotes, FixedField, TableFull, HighCeiling}
 
@@ -20,6 +20,11 @@ refusal_number NoQuotes = 14
 refusal_number FixedField = 15
 refusal_number TableFull = 16
 refusal_number HighCeiling = 27
+
+-- the number of an answer: 0, or that of the refusal
+abbrev pub number_in : Result (Unit {0}) Refusal → ℕ
+number_in (Ok u) = 0
+number_in (Err r) = refusal_number r
 
 -- a refusal may stand in a handle: 1 to 6, 10 to 16; 0 where none stands
 unfoldable pub standing : ℕ → Bool

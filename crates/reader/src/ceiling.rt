@@ -38,14 +38,12 @@ pub fn up_to(
     ensures { left result handle.new (memories table.new index.new) ≡ ran_to (seen_run (run_by step_in ceiling (state_of (reader_in handle.old) (memories table.old index.old)) piece.now)) (places_in handle.old) }
 {
     let mut taken = 0;
-    let mut finished = 0;
-    while finished < ceiling {
+    for finished in 0..ceiling {
         let number = crate::turned(handle, table, index, &piece[taken..]);
         taken += (number / told::BYTE_TAKEN) as usize;
         if !is_event(number) {
             return answer(number % told::BYTE_TAKEN, finished, taken);
         }
-        finished += 1;
     }
-    answer(crate::why_stopped(handle), finished, taken)
+    answer(crate::why_stopped(handle), ceiling, taken)
 }

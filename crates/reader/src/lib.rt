@@ -1,4 +1,5 @@
 // The reader: a handle by value with the bytes of a packet that is not whole yet; it is started, stepped, and handed back.
+// A handle, its table and its index are three borrows side by side: one struct of the three costs a quote 25 instructions.
 #![tactic(auto)]
 
 ghost use Rattle.std.specs.Prelude.{◌≡◌, true, cond, length};
@@ -31,7 +32,7 @@ mod told;
 pub const MOST_PACKETS: u32 = 1000;
 
 // Why a call is refused.
-#[derive(Clone, Copy)]
+#[derive(Clone, Copy, Debug, PartialEq, Eq)]
 pub enum Refusal {
     // Memory of the wrong length, a handle that breaks a limit, or an index that leads to no row in use.
     Unfit,
@@ -71,7 +72,8 @@ pub struct Texts {
 }
 
 // The handle. `held` up to `used` are the bytes of a packet that is not whole yet; `refusal` is the number of the refusal that
-// stands, 0 for none.
+// stands, 0 for none: a byte of the handle, as `head_bytes` lays it. `head` and `with` go between this and `Head`: its fields are
+// named here, and not a head within, since the promises of every call name them so.
 #[derive(Clone, Copy)]
 pub struct Reader {
     pub line: Line,
@@ -90,7 +92,7 @@ pub enum StepAnswer {
     Refused(Refusal),
 }
 
-// The reader is handed back, with the count of bytes taken.
+// The reader is handed back, with the count of bytes taken, also where it refuses: `Stepping` promises each.
 #[derive(Clone, Copy)]
 pub struct Stepped {
     pub reader: Reader,
@@ -100,7 +102,7 @@ pub struct Stepped {
 }
 
 // Why a run stopped.
-#[derive(Clone, Copy)]
+#[derive(Clone, Copy, Debug, PartialEq, Eq)]
 pub enum Why {
     Ended,
     Refused(Refusal),
@@ -108,7 +110,7 @@ pub enum Why {
     More,
 }
 
-// The reader is handed back, with the bytes taken and the packets finished.
+// The reader is handed back, with the bytes taken and the packets finished, also where it refuses: `Running` promises each.
 #[derive(Clone, Copy)]
 pub struct Ran {
     pub reader: Reader,
@@ -117,13 +119,14 @@ pub struct Ran {
     pub why: Why,
 }
 
+// The reader is fresh, also where the start is refused: `Starting` promises both.
 #[derive(Clone, Copy)]
 pub struct Started {
     pub reader: Reader,
     pub answer: Result<(), Refusal>,
 }
 
-// An image is accepted, or refused by name; then the reader is fresh.
+// An image is accepted, or refused by name; then the reader is fresh, which `Restores` promises beside the refusal.
 #[derive(Clone, Copy)]
 pub struct Restored {
     pub reader: Reader,
@@ -152,7 +155,7 @@ fn straight(handle: &mut [u8], rows: usize, table: &mut [u8], index: &mut [u8], 
             taken as u32 * told::BYTE_TAKEN
         }
         Framing::BadLength => {
-            told::refuse(refusals::number(Refusal::BadPacketLength), handle) + 2 * told::BYTE_TAKEN
+            told::refuse(Refusal::BadPacketLength, handle) + 2 * told::BYTE_TAKEN
         }
         Framing::Whole(size) => {
             let end = size + 2;
@@ -165,7 +168,7 @@ fn straight(handle: &mut [u8], rows: usize, table: &mut [u8], index: &mut [u8], 
 // A step that its index led astray is undone: nothing is taken, no refusal stands, and what was held is held. `number` is its number.
 fn heeded(number: u32, used: usize, handle: &mut [u8]) -> u32
     requires { length handle.old ≡ handle_size }
-    ensures value { result ≡ cond (is_astray number) 2_068 number }
+    ensures number { result ≡ cond (is_astray number) 2_068 number }
     ensures handle_after { handle.new ≡ cond (is_astray number) (held_again used handle.old) handle.old }
 {
     if number % told::BYTE_TAKEN != told::UNFIT {
@@ -363,8 +366,7 @@ fn restored_line(h: Header) -> Line
     ensures { result ≡ line_of h }
 {
     if h.known {
-        let session = h.session;
-        return Line::waiting(session, h.next);
+        return Line::waiting(h.session, h.next);
     }
     Line::fresh()
 }
@@ -374,9 +376,8 @@ fn index_rows(verdict: Result<(), image::Refusal>, rows: usize, table: &[u8], in
     requires { verdict ≡ Ok tt → LentFitting rows (memories table.now index.old) }
     ensures { index.new ≡ index_after verdict rows table.now index.old }
 {
-    match verdict {
-        Ok(()) => index::build(index, table, rows),
-        Err(_) => {}
+    if verdict.is_ok() {
+        index::build(index, table, rows);
     }
 }
 
@@ -385,11 +386,9 @@ impl Reader {
     pub fn head(self) -> Head
         ensures { result ≡ head_part self }
     {
-        let line = self.line;
-        let board = self.board;
         Head {
-            line,
-            board,
+            line: self.line,
+            board: self.board,
             ended: self.ended,
             refusal: self.refusal,
             used: self.used,
@@ -400,11 +399,9 @@ impl Reader {
     pub fn with(head: Head, held: [u8; HELD_SIZE]) -> Reader
         ensures { result ≡ reader_with head held }
     {
-        let line = head.line;
-        let board = head.board;
         Reader {
-            line,
-            board,
+            line: head.line,
+            board: head.board,
             ended: head.ended,
             refusal: head.refusal,
             used: head.used,
@@ -417,18 +414,9 @@ impl Reader {
         ensures { Starting (memories table.old index.old) result (memories table.new index.new) }
     {
         let applied = table::start(table, index);
-        let board = applied.board;
-        let verdict = applied.verdict;
-        let reader = ready(Line::fresh(), board);
-        match verdict {
-            Ok(()) => Started {
-                reader,
-                answer: Ok(()),
-            },
-            Err(r) => Started {
-                reader,
-                answer: Err(refusals::of_table(r)),
-            },
+        Started {
+            reader: ready(Line::fresh(), applied.board),
+            answer: applied.verdict.map_err(Refusal::from),
         }
     }
 
@@ -437,8 +425,7 @@ impl Reader {
         ensures { result ≡ handle_bytes (head_part self) self.held }
     {
         let mut bytes = [0u8; HANDLE_SIZE];
-        let held = self.held;
-        field::copy(&held, 0, HELD_SIZE, &mut bytes, HEAD_SIZE);
+        field::put::<HELD_SIZE>(&mut bytes, HEAD_SIZE, &self.held);
         handle::put_head(self.head(), &mut bytes);
         bytes
     }
@@ -448,9 +435,10 @@ impl Reader {
         requires { length handle.now ≡ handle_size }
         ensures { result ≡ reader_in handle.now }
     {
-        let mut held = [0u8; HELD_SIZE];
-        field::copy(handle, HEAD_SIZE, HELD_SIZE, &mut held, 0);
-        Reader::with(handle::read_head(handle), held)
+        Reader::with(
+            handle::read_head(handle),
+            field::bytes::<HELD_SIZE>(handle, HEAD_SIZE),
+        )
     }
 
     // Takes at most one packet of the piece: the step on bytes of its own, with event memory of its own.
@@ -461,13 +449,11 @@ impl Reader {
         let mut event = [0u8; RECORD_SIZE];
         let number = step(&mut handle, table, index, piece, &mut event);
         let heard = told::read_back(number, &event);
-        let answer = heard.answer;
-        let texts = heard.texts;
         Stepped {
             reader: Reader::read(&handle),
             taken: (number / told::BYTE_TAKEN) as usize,
-            answer,
-            texts,
+            answer: heard.answer,
+            texts: heard.texts,
         }
     }
 
@@ -489,25 +475,21 @@ impl Reader {
     pub fn save(self, table: &[u8], out: &mut [u8]) -> Result<usize, image::Refusal>
         ensures { Saves self table.now out.old result out.new }
     {
-        let held = self.held;
         if !limits::keep(
             self.board.rows,
             self.line.next,
             self.used,
             self.refusal,
-            &held,
+            &self.held,
             table,
         ) {
             return Err(image::Refusal::Unfit);
         }
-        let line = self.line;
-        let session = line.session;
-        let board = self.board;
         let header = Header {
-            session,
-            known: line.known,
-            next: line.next,
-            board,
+            session: self.line.session,
+            known: self.line.known,
+            next: self.line.next,
+            board: self.board,
         };
         image::save(header, table, out)
     }
@@ -523,13 +505,10 @@ impl Reader {
             };
         }
         let back = image::restore(saved, table);
-        let header = back.header;
-        let verdict = back.verdict;
-        let board = header.board;
-        index_rows(verdict, header.board.rows, table, index);
+        index_rows(back.verdict, back.header.board.rows, table, index);
         Restored {
-            reader: ready(restored_line(header), board),
-            verdict,
+            reader: ready(restored_line(back.header), back.header.board),
+            verdict: back.verdict,
         }
     }
 }

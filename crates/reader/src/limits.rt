@@ -15,14 +15,11 @@ fn holds_unfinished(used: usize, held: &[u8]) -> bool
     if HELD_SIZE < used {
         return false;
     }
-    match packet::front(&held[..used]) {
-        Framing::Short => true,
-        Framing::BadLength => false,
-        Framing::Whole(_) => false,
-    }
+    matches!(packet::front(&held[..used]), Framing::Short)
 }
 
-// Does a handle with these numbers and places of held bytes keep its limits, with that table memory?
+// Does a handle with these numbers and places of held bytes keep its limits, with that table memory? The numbers come one by one: a
+// step has read them where the handle lies, and a reader has them by value.
 pub fn keep(rows: usize, next: u64, used: usize, refusal: u8, held: &[u8], table: &[u8]) -> bool
     ensures { result ≡ lent_within (head_with rows next used refusal) held.now table.now }
 {

@@ -9,7 +9,7 @@ ghost use Rattle.reader.specs.Deliver.{deliver};
 ghost use Rattle.reader.specs.Handles.{left};
 ghost use Rattle.reader.specs.Shapes.{Ready, session_at, closed_as};
 
-use crate::{deliver, refusals, told};
+use crate::{Refusal, deliver, told};
 use handle::{HANDLE_SIZE, Head};
 use packet::Packet;
 
@@ -19,30 +19,18 @@ fn log_in(handle: &mut [u8], body: &[u8])
     ensures { handle.new ≡ overlay handle.old 0 (head_bytes (with_line (logged_in (head_of handle.old).line (login_session body.now)) (head_of handle.old))) }
 {
     let head = handle::read_head(handle);
-    let before = head.line;
-    let board = head.board;
-    let line = before.logged_in(body);
-    handle::put_head(
-        Head {
-            line,
-            board,
-            ended: head.ended,
-            refusal: head.refusal,
-            used: head.used,
-        },
-        handle,
-    );
+    let line = head.line.logged_in(body);
+    handle::put_head(Head { line, ..head }, handle);
 }
 
 // A packet that is no message for the next number.
 fn other(handle: &mut [u8], letter: u8, body: &[u8]) -> u32
     requires { ((t : Memories) × Ready handle.old t) × (is_message (packet_of (head_of handle.old).line letter body.now) ≡ false) }
     ensures closes { (t : Memories) → left result handle.new t ≡ closed_as (soup_bin_tcp deliver (session_at handle.old t) letter body.now) handle.old }
-    ensures upper_bound { result < 65_536 }
+    ensures low_half { result < 65_536 }
 {
     let head = handle::read_head(handle);
-    let line = head.line;
-    match packet::judge(line, letter, body) {
+    match packet::judge(head.line, letter, body) {
         Packet::Login(_) => {
             log_in(handle, body);
             told::LOGIN
@@ -58,7 +46,7 @@ fn other(handle: &mut [u8], letter: u8, body: &[u8]) -> u32
             told::END
         }
         Packet::Skipped => told::SKIPPED,
-        Packet::Refused(f) => told::refuse(refusals::number(refusals::of_packet(f)), handle),
+        Packet::Refused(f) => told::refuse(Refusal::from(f), handle),
     }
 }
 
@@ -73,7 +61,7 @@ pub fn act(
 ) -> u32
     requires { Ready handle.old (memories table.old index.old) × (rows ≡ (head_of handle.old).board.rows) }
     ensures closes { left result handle.new (memories table.new index.new) ≡ closed_as (soup_bin_tcp deliver (session_at handle.old (memories table.old index.old)) letter body.now) handle.old }
-    ensures upper_bound { result < 65_536 }
+    ensures low_half { result < 65_536 }
 {
     let next = handle::next(handle);
     if packet::is_message(handle::logged(handle), next, letter) {

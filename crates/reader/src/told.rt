@@ -7,12 +7,14 @@ ghost use Rattle.record.specs.Places.{record_size};
 ghost use Rattle.record.specs.Record.{record_of};
 ghost use Rattle.handle.specs.Handle.{handle_size, refusal_field, with_field};
 ghost use Rattle.reader.specs.Handles.{message_in, answer_in};
+ghost use Rattle.reader.specs.Refusals.{refusal_number};
 ghost use Rattle.reader.specs.Running.{why_of, why_in};
 ghost use Rattle.reader.specs.Shapes.{Tellable, told_by, read_back, beside, quiet_heard};
 
-use crate::{Event, StepAnswer, Texts, Why, no_text, refusals};
+use crate::{Event, Refusal, StepAnswer, Texts, Why, no_text, refusals};
 use packet::SESSION_SIZE;
 
+// These are numbers and no enum: C reads them, and `HostSteps` and `HostRuns` name them.
 pub const LOGIN: u32 = 256;
 
 pub const REJECTED: u32 = 512;
@@ -46,13 +48,14 @@ pub const BYTE_TAKEN: u32 = 65536;
 pub const SESSION_AT: usize = 8;
 
 // A packet is refused, and the refusal stands.
-pub fn refuse(r: u8, handle: &mut [u8]) -> u32
+pub fn refuse(refusal: Refusal, handle: &mut [u8]) -> u32
     requires { length handle.old ≡ handle_size }
-    ensures value { result ≡ 2048 + r }
-    ensures handle_after { handle.new ≡ with_field refusal_field r handle.old }
+    ensures number { result ≡ 2048 + refusal_number refusal }
+    ensures handle_after { handle.new ≡ with_field refusal_field (refusal_number refusal) handle.old }
 {
-    handle::put_refusal(r, handle);
-    REFUSED + r as u32
+    let number = u8::from(refusal);
+    handle::put_refusal(number, handle);
+    REFUSED + number as u32
 }
 
 // Is the number of a step that of an accepted message?
@@ -90,7 +93,7 @@ pub fn tell(number: u32, handle: &[u8], bytes: &[u8], event: &mut [u8])
     }
 }
 
-// An answer by name, and the texts beside it.
+// An answer by name, and the texts beside it: `Stepping` promises zeros in the texts of an answer that has none, a refusal too.
 #[derive(Clone, Copy)]
 pub struct Heard {
     pub answer: StepAnswer,
@@ -110,12 +113,10 @@ fn login(event: &[u8]) -> Heard
     requires { length event.now ≡ record_size }
     ensures { read_back result ≡ beside (stream.Event (packets.login (be (part event.now 0 8)) (part event.now 8 10))) }
 {
-    let mut session = [0u8; SESSION_SIZE];
-    field::copy(event, SESSION_AT, SESSION_SIZE, &mut session, 0);
     Heard {
         answer: StepAnswer::Event(Event::Login(field::read::<u64>(event, 0))),
         texts: Texts {
-            session,
+            session: field::bytes::<SESSION_SIZE>(event, SESSION_AT),
             message: message::no_texts(),
         },
     }
@@ -125,14 +126,12 @@ fn message(event: &[u8]) -> Heard
     ensures { read_back result ≡ beside (message_in (record_of event.now).taken (record_of event.now).texts) }
 {
     let held = record::take(event);
-    let texts = held.texts;
-    let taken = held.taken;
-    match taken {
+    match held.taken {
         Some(m) => Heard {
             answer: StepAnswer::Event(Event::Message(m)),
             texts: Texts {
                 session: [0; SESSION_SIZE],
-                message: texts,
+                message: held.texts,
             },
         },
         None => quiet(StepAnswer::More),

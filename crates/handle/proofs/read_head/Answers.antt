@@ -4,5 +4,5 @@ use Rattle.handle.proofs.read_head.Goals as goal
 
 pub returns : goal.returns
 returns c =
-    head_read c.args.bytes.now c.requires c.copy.ensures c.read.ensures c.read-2.ensures c.read-3.ensures c.read-4.ensures
+    head_read c.args.bytes.now c.requires c.bytes.ensures c.read.ensures c.read-2.ensures c.read-3.ensures c.read-4.ensures
     c.read-5.ensures c.read-6.ensures c.read-7.ensures c.read-8.ensures c.read-9.ensures

@@ -119,4 +119,4 @@ returns c =
     let lent : Lent c.args.handle.now = search (rules, c.slice_known-1) in
     let put-bytes : Bytes c.put_used.new.out = lent-bytes c.put_used.new.out (search (rules, c.slice_known-5-1)) in
     let piece_bytes : Bytes c.args.piece.now = lent-bytes c.args.piece.now (search (rules, c.shared_slice_known-1)) in
-    let t = told-there _ _ _ c.args.event.now (unheld-ready c.args.handle.now memory c.requires.0 lent c.put_used.ensures) put-bytes (mended-bytes c.args.handle.now memory c.requires.0 lent c.put_used.ensures c.args.piece.now c.args.used c.room-n.result c.joined-all.result c.requires.1.1.0 c.room-n.ensures c.joined-all.ensures piece_bytes) c.requires.1.1.1 (search (rules, size)) c.straight-number.ensures in record { heeds = heeded-as c.args.handle.now memory c.requires.0.going c.requires.0.start lent c.args.piece.now piece_bytes (mended-whole c.args.handle.now memory c.requires.0 lent c.put_used.ensures c.args.piece.now c.args.used c.room-n.result c.joined-all.result c.requires.1.1.0 c.room-n.ensures c.joined-all.ensures c.straight-number.ensures) c.requires.1.1.0 c.heeded.ensures.value c.heeded.ensures.handle_after; event_after = c.tell.ensures ∙ t.is ∙ ap (λ (x : stream.Answer (Event Said)). told_memory x c.args.event.now) (mended-answer c.args.handle.now memory c.requires.0 lent c.put_used.ensures c.args.piece.now c.args.used c.room-n.result c.joined-all.result c.requires.1.1.0 c.room-n.ensures c.joined-all.ensures) }
+    let t = told-there _ _ _ c.args.event.now (unheld-ready c.args.handle.now memory c.requires.0 lent c.put_used.ensures) put-bytes (mended-bytes c.args.handle.now memory c.requires.0 lent c.put_used.ensures c.args.piece.now c.args.used c.room-n.result c.joined-all.result c.requires.1.1.0 c.room-n.ensures c.joined-all.ensures piece_bytes) c.requires.1.1.1 (search (rules, size)) c.straight-number.ensures in record { heeds = heeded-as c.args.handle.now memory c.requires.0.going c.requires.0.start lent c.args.piece.now piece_bytes (mended-whole c.args.handle.now memory c.requires.0 lent c.put_used.ensures c.args.piece.now c.args.used c.room-n.result c.joined-all.result c.requires.1.1.0 c.room-n.ensures c.joined-all.ensures c.straight-number.ensures) c.requires.1.1.0 c.heeded.ensures.number c.heeded.ensures.handle_after; event_after = c.tell.ensures ∙ t.is ∙ ap (λ (x : stream.Answer (Event Said)). told_memory x c.args.event.now) (mended-answer c.args.handle.now memory c.requires.0 lent c.put_used.ensures c.args.piece.now c.args.used c.room-n.result c.joined-all.result c.requires.1.1.0 c.room-n.ensures c.joined-all.ensures) }

@@ -103,7 +103,7 @@ returns-then-used-eq0 c =
     let piece_bytes : Bytes c.args.piece.now = lent-bytes c.args.piece.now (search (rules, c.shared_slice_known-1)) in
     let size-after : length c.straight-number.new.handle ≡ handle_size = search (rules, size, c.handle-1) in
     let t = told-there c.args.handle.now memory c.args.piece.now c.args.event.now (turned-ready c.args.handle.now memory c.args.piece.now lent c.requires.0 c.goes_on.ensures (ap not c.if-not-goes_on.false) c.used-used.ensures c.if-used-eq0.true) (lent-bytes c.args.handle.now lent) piece_bytes c.requires.1.0 size-after c.straight-number.ensures in
-    steps-told c.args.handle.now memory c.args.piece.now c.args.event.now c.requires.1.0 is (turned-live c.args.handle.now memory c.args.piece.now lent c.requires.0 c.goes_on.ensures (ap not c.if-not-goes_on.false) (heeded-as c.args.handle.now memory (turned-going c.args.handle.now memory c.args.piece.now lent c.requires.0 c.goes_on.ensures (ap not c.if-not-goes_on.false)) (none-held c.args.handle.now c.used-used.ensures c.if-used-eq0.true) lent c.args.piece.now piece_bytes c.straight-number.ensures (sym c.if-used-eq0.true ∙ c.used-used.ensures) c.heeded.ensures.value c.heeded.ensures.handle_after))
+    steps-told c.args.handle.now memory c.args.piece.now c.args.event.now c.requires.1.0 is (turned-live c.args.handle.now memory c.args.piece.now lent c.requires.0 c.goes_on.ensures (ap not c.if-not-goes_on.false) (heeded-as c.args.handle.now memory (turned-going c.args.handle.now memory c.args.piece.now lent c.requires.0 c.goes_on.ensures (ap not c.if-not-goes_on.false)) (none-held c.args.handle.now c.used-used.ensures c.if-used-eq0.true) lent c.args.piece.now piece_bytes c.straight-number.ensures (sym c.if-used-eq0.true ∙ c.used-used.ensures) c.heeded.ensures.number c.heeded.ensures.handle_after))
     (c.tell.ensures ∙ t.is ∙ answers c.args.handle.now memory c.args.piece.now lent c.requires.0 c.goes_on.ensures (ap not c.if-not-goes_on.false) c.args.event.now)
 
 pub mended-requires : goal.mended-requires

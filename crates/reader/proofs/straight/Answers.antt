@@ -1,7 +1,7 @@
 -- `reader::straight` meets its contract.
 use borrow.Author.Rules.{rules}
 use native.Mathlib.Omega.{arith}
-use mathlib.Core.Path.{◌≡◌}
+use mathlib.Core.Path.{◌≡◌, refl}
 use lib.ListN.{length}
 use Rattle.field.proofs.Numbers.{Lent}
 use Rattle.packet.proofs.Frame.{WholeAt, whole-there}
@@ -70,7 +70,7 @@ overflow_mul-result-in-Whole c =
 pub overflow_add-result-in-Whole : goal.overflow_add-result-in-Whole
 overflow_add-result-in-Whole c =
     let is_whole : WholeAt c.args.piece.now c.in-Whole.size = whole-there c.args.piece.now c.front.ensures c.in-Whole.is in
-    omega (arith, is_whole.high, c.act.ensures.upper_bound)
+    omega (arith, is_whole.high, c.act.ensures.low_half)
 
 pub returns-in-Short : goal.returns-in-Short
 returns-in-Short c =
@@ -82,7 +82,7 @@ pub returns-in-BadLength : goal.returns-in-BadLength
 returns-in-BadLength c =
     let memory : Memories = memories c.args.table.now c.args.index.now in
     let lent : Lent c.args.handle.now = search (rules, c.slice_known-1) in
-    straight-bad c.args.handle.now memory c.requires.0 lent c.args.piece.now c.front.ensures c.in-BadLength.is c.number.ensures c.refuse.ensures.value c.refuse.ensures.handle_after
+    straight-bad c.args.handle.now memory c.requires.0 lent c.args.piece.now c.front.ensures c.in-BadLength.is refl c.refuse.ensures.number c.refuse.ensures.handle_after
 
 pub returns-in-Whole : goal.returns-in-Whole
 returns-in-Whole c =

@@ -68,7 +68,7 @@ returns-then-used-eq0 c =
     let memory : Memories = memories c.args.table.now c.args.index.now in
     let lent : Lent c.args.handle.now = search (rules, c.slice_known-1) in
     let piece_bytes : Bytes c.args.piece.now = lent-bytes c.args.piece.now (search (rules, c.shared_slice_known-1)) in
-    turned-live c.args.handle.now memory c.args.piece.now lent c.requires c.goes_on.ensures (ap not c.if-not-goes_on.false) (heeded-as c.args.handle.now memory (turned-going c.args.handle.now memory c.args.piece.now lent c.requires c.goes_on.ensures (ap not c.if-not-goes_on.false)) (none-held c.args.handle.now c.used-used.ensures c.if-used-eq0.true) lent c.args.piece.now piece_bytes c.straight-number.ensures (sym c.if-used-eq0.true ∙ c.used-used.ensures) c.heeded.ensures.value c.heeded.ensures.handle_after)
+    turned-live c.args.handle.now memory c.args.piece.now lent c.requires c.goes_on.ensures (ap not c.if-not-goes_on.false) (heeded-as c.args.handle.now memory (turned-going c.args.handle.now memory c.args.piece.now lent c.requires c.goes_on.ensures (ap not c.if-not-goes_on.false)) (none-held c.args.handle.now c.used-used.ensures c.if-used-eq0.true) lent c.args.piece.now piece_bytes c.straight-number.ensures (sym c.if-used-eq0.true ∙ c.used-used.ensures) c.heeded.ensures.number c.heeded.ensures.handle_after)
 
 pub mended-requires : goal.mended-requires
 mended-requires c =

@@ -1,7 +1,6 @@
 -- `reader::ceiling::up_to` meets its contract.
 use borrow.Author.Rules.{rules}
 use native.Mathlib.Omega.{arith}
-use mathlib.Core.Path.{refl}
 use Rattle.field.specs.Bytes.{Bytes}
 use Rattle.field.proofs.Numbers.{lent-bytes}
 use Rattle.handle.proofs.Rounds.{handle-length}
@@ -15,7 +14,7 @@ use Rattle.reader.proofs.ceiling.up_to.Goals as goal
 pub loop-finished-init : goal.loop-finished-init
 loop-finished-init c =
     let memory : Memories = memories c.args.table.now c.args.index.now in
-    (along-begins c.args.ceiling c.args.handle.now memory c.args.piece.now c.requires.0, (refl, (refl, (refl, search (rules, c.slice_known-1)))))
+    (along-begins c.args.ceiling c.args.handle.now memory c.args.piece.now c.requires.0, search (rules, c.slice_known-1))
 
 pub slice_bounds-turned-count : goal.slice_bounds-turned-count
 slice_bounds-turned-count c = c.loop-finished.invariant.0.there
@@ -37,34 +36,28 @@ overflow_add-taken c =
     let memory : Memories = memories c.args.table.now c.args.index.now in
     let piece_bytes : Bytes c.args.piece.now = lent-bytes c.args.piece.now (search (rules, c.shared_slice_known-1)) in
     let loop = c.loop-finished in
-    omega (arith, turn-room c.args.ceiling c.args.handle.now memory c.args.piece.now loop.handle (memories loop.table loop.index) loop.taken loop.finished loop.invariant.0 (lent-bytes loop.handle loop.invariant.1.1.1.1) piece_bytes c.loop-finished-test.true c.turned-number.ensures, loop.invariant.0.few, c.requires.1)
+    omega (arith, turn-room c.args.ceiling c.args.handle.now memory c.args.piece.now loop.handle (memories loop.table loop.index) loop.taken loop.finished loop.invariant.0 (lent-bytes loop.handle loop.invariant.1) piece_bytes c.loop-finished-test.true c.turned-number.ensures, loop.invariant.0.few, c.requires.1)
 
 pub answer-requires : goal.answer-requires
 answer-requires c =
     let memory : Memories = memories c.args.table.now c.args.index.now in
     let piece_bytes : Bytes c.args.piece.now = lent-bytes c.args.piece.now (search (rules, c.shared_slice_known-1)) in
     let loop = c.loop-finished in
-    (stop-low c.args.ceiling c.args.handle.now memory c.args.piece.now loop.handle (memories loop.table loop.index) loop.taken loop.finished loop.invariant.0 (lent-bytes loop.handle loop.invariant.1.1.1.1) piece_bytes c.loop-finished-test.true c.turned-number.ensures c.is_event.ensures (ap not c.if-not-is_event.true), (omega (arith, loop.invariant.0.few, c.requires.1), omega (arith, turn-room c.args.ceiling c.args.handle.now memory c.args.piece.now loop.handle (memories loop.table loop.index) loop.taken loop.finished loop.invariant.0 (lent-bytes loop.handle loop.invariant.1.1.1.1) piece_bytes c.loop-finished-test.true c.turned-number.ensures, loop.invariant.0.few, c.requires.1)))
+    (stop-low c.args.ceiling c.args.handle.now memory c.args.piece.now loop.handle (memories loop.table loop.index) loop.taken loop.finished loop.invariant.0 (lent-bytes loop.handle loop.invariant.1) piece_bytes c.loop-finished-test.true c.turned-number.ensures c.is_event.ensures (ap not c.if-not-is_event.true), (omega (arith, loop.invariant.0.few, c.requires.1), omega (arith, turn-room c.args.ceiling c.args.handle.now memory c.args.piece.now loop.handle (memories loop.table loop.index) loop.taken loop.finished loop.invariant.0 (lent-bytes loop.handle loop.invariant.1) piece_bytes c.loop-finished-test.true c.turned-number.ensures, loop.invariant.0.few, c.requires.1)))
 
 pub returns-then-not-is_event : goal.returns-then-not-is_event
 returns-then-not-is_event c =
     let memory : Memories = memories c.args.table.now c.args.index.now in
     let piece_bytes : Bytes c.args.piece.now = lent-bytes c.args.piece.now (search (rules, c.shared_slice_known-1)) in
     let loop = c.loop-finished in
-    run-halts c.args.ceiling c.args.handle.now memory c.args.piece.now loop.handle (memories loop.table loop.index) loop.taken loop.finished loop.invariant.0 (lent-bytes loop.handle loop.invariant.1.1.1.1) piece_bytes c.loop-finished-test.true c.turned-number.ensures c.is_event.ensures (ap not c.if-not-is_event.true) c.answer.ensures
-
-pub overflow_add-finished : goal.overflow_add-finished
-overflow_add-finished c = omega (arith, c.loop-finished-test.true)
-
-pub loop-finished-smaller : goal.loop-finished-smaller
-loop-finished-smaller c = omega (arith, c.loop-finished-test.true)
+    run-halts c.args.ceiling c.args.handle.now memory c.args.piece.now loop.handle (memories loop.table loop.index) loop.taken loop.finished loop.invariant.0 (lent-bytes loop.handle loop.invariant.1) piece_bytes c.loop-finished-test.true c.turned-number.ensures c.is_event.ensures (ap not c.if-not-is_event.true) c.answer.ensures
 
 pub loop-finished-preserved : goal.loop-finished-preserved
 loop-finished-preserved c =
     let memory : Memories = memories c.args.table.now c.args.index.now in
     let piece_bytes : Bytes c.args.piece.now = lent-bytes c.args.piece.now (search (rules, c.shared_slice_known-1)) in
     let loop = c.loop-finished in
-    (along-on c.args.ceiling c.args.handle.now memory c.args.piece.now loop.handle (memories loop.table loop.index) loop.taken loop.finished loop.invariant.0 (lent-bytes loop.handle loop.invariant.1.1.1.1) piece_bytes c.loop-finished-test.true c.turned-number.ensures c.is_event.ensures (ap not c.if-not-is_event.false) (search rules) (search rules), (search rules, (search rules, (search rules, search (rules, c.slice_known-in-loop-finished-1)))))
+    (along-on c.args.ceiling c.args.handle.now memory c.args.piece.now loop.handle (memories loop.table loop.index) loop.taken loop.finished loop.invariant.0 (lent-bytes loop.handle loop.invariant.1) piece_bytes c.loop-finished-test.true c.turned-number.ensures c.is_event.ensures (ap not c.if-not-is_event.false) (search rules) (search rules), search (rules, c.slice_known-in-loop-finished-1))
 
 pub why_stopped-requires : goal.why_stopped-requires
 why_stopped-requires c =
@@ -75,10 +68,10 @@ pub answer-requires-2 : goal.answer-requires-2
 answer-requires-2 c =
     let memory : Memories = memories c.args.table.now c.args.index.now in
     let loop = c.loop-finished in
-    (end_low c.args.ceiling c.args.handle.now memory c.args.piece.now loop.handle (memories loop.table loop.index) loop.taken loop.finished loop.invariant.0 loop.invariant.1.1.1.1 c.loop-finished-test.false c.why_stopped.ensures, (omega (arith, loop.invariant.0.few, c.requires.1), omega (arith, loop.invariant.0.room, loop.invariant.0.few, c.requires.1)))
+    (end_low c.args.ceiling c.args.handle.now memory c.args.piece.now loop.handle (memories loop.table loop.index) loop.taken loop.finished loop.invariant.0 loop.invariant.1 c.loop-finished-test.false c.why_stopped.ensures, (omega (arith, loop.invariant.0.few, c.requires.1), omega (arith, loop.invariant.0.room, loop.invariant.0.few, c.requires.1)))
 
 pub returns : goal.returns
 returns c =
     let memory : Memories = memories c.args.table.now c.args.index.now in
     let loop = c.loop-finished in
-    run_ends c.args.ceiling c.args.handle.now memory c.args.piece.now loop.handle (memories loop.table loop.index) loop.taken loop.finished loop.invariant.0 loop.invariant.1.1.1.1 c.loop-finished-test.false c.why_stopped.ensures c.answer-2.ensures
+    run_ends c.args.ceiling c.args.handle.now memory c.args.piece.now loop.handle (memories loop.table loop.index) loop.taken loop.finished loop.invariant.0 loop.invariant.1 c.loop-finished-test.false c.why_stopped.ensures c.answer-2.ensures

@@ -2,6 +2,7 @@
 use borrow.Author.Rules.{rules}
 use Rattle.table.specs.Memory.{Memories, memories}
 use Rattle.reader.proofs.Delivered.{message-refused, message-done}
+use Rattle.reader.proofs.Fits.{number-low}
 use Rattle.handle.proofs.Rounds.{handle-length}
 use native.Mathlib.Omega.{arith}
 use mathlib.Core.Path.{ap, ◌∙◌}
@@ -12,12 +13,12 @@ pub refuse-requires : goal.refuse-requires
 refuse-requires c =
     search (handle-length c.args.handle.now c.requires.0.going.handle-is, rules)
 
-pub returns-then-r-ne0 : goal.returns-then-r-ne0
-returns-then-r-ne0 c = let memory : Memories = memories c.args.table.now c.args.index.now in record { closes = message-refused c.args.handle.now memory c.requires.0 _ _ _ c.args.body.now c.tried-r.ensures (search rules) c.refuse.ensures.value c.refuse.ensures.handle_after; upper_bound = omega (arith, c.refuse.ensures.value, c.tried-r) }
+pub returns-in-Err : goal.returns-in-Err
+returns-in-Err c = let memory : Memories = memories c.args.table.now c.args.index.now in record { closes = message-refused c.args.handle.now memory c.requires.0 _ _ _ c.args.body.now c.tried.ensures c.in-Err.r c.in-Err.is c.refuse.ensures.number c.refuse.ensures.handle_after; low_half = omega (arith, c.refuse.ensures.number, number-low c.in-Err.r) }
 
 pub put_next-requires : goal.put_next-requires
 put_next-requires c =
     search (handle-length c.args.handle.now c.requires.0.going.handle-is, rules)
 
 pub returns : goal.returns
-returns c = let memory : Memories = memories c.args.table.now c.args.index.now in record { closes = message-done c.args.handle.now memory c.requires.0 _ _ _ c.args.body.now c.tried-r.ensures _ (search rules) (c.number_after.ensures ∙ ap number_after c.requires.1.1.0) c.put_next.ensures; upper_bound = omega arith }
+returns c = let memory : Memories = memories c.args.table.now c.args.index.now in record { closes = message-done c.args.handle.now memory c.requires.0 _ _ _ c.args.body.now c.tried.ensures _ (search rules) (c.number_after.ensures ∙ ap number_after c.requires.1.1.0) c.put_next.ensures; low_half = omega arith }

@@ -2,7 +2,7 @@
 use native.Mathlib.Omega.{arith}
 use lib.Seq.{length-take-le}
 use mathlib.Core.Path.{sym}
-use Rattle.reader.proofs.Kept.{held-over, held-short, held-bad, held_whole}
+use Rattle.reader.proofs.Kept.{held-over, held-short, held-other}
 use Rattle.reader.proofs.limits.holds_unfinished.Goals as goal
 
 pub returns-then-used-gt-HELD_SIZE : goal.returns-then-used-gt-HELD_SIZE
@@ -15,8 +15,5 @@ slice_bounds-front-end c =
 pub returns-in-Short : goal.returns-in-Short
 returns-in-Short c = search held-short
 
-pub returns-in-BadLength : goal.returns-in-BadLength
-returns-in-BadLength c = search held-bad
-
-pub returns-in-Whole : goal.returns-in-Whole
-returns-in-Whole c = search held_whole
+pub returns-in_default : goal.returns-in_default
+returns-in_default c = search held-other

@@ -26,7 +26,7 @@ message-requires c =
     (c.requires.0, (c.requires.1, (c.next-next.ensures, act-counts c.args.handle.now memory c.requires.0 c.args.letter c.args.body.now c.next-next.ensures c.logged.ensures c.is_message.ensures c.if-is_message.true)))
 
 pub returns-then-is_message : goal.returns-then-is_message
-returns-then-is_message c = let memory : Memories = memories c.args.table.now c.args.index.now in record { closes = act-message c.args.handle.now memory c.requires.0 c.args.letter c.args.body.now c.next-next.ensures c.logged.ensures c.is_message.ensures c.if-is_message.true c.message.ensures.closes; upper_bound = c.message.ensures.upper_bound }
+returns-then-is_message c = let memory : Memories = memories c.args.table.now c.args.index.now in record { closes = act-message c.args.handle.now memory c.requires.0 c.args.letter c.args.body.now c.next-next.ensures c.logged.ensures c.is_message.ensures c.if-is_message.true c.message.ensures.closes; low_half = c.message.ensures.low_half }
 
 pub slice_bounds-other-end : goal.slice_bounds-other-end
 slice_bounds-other-end c =
@@ -47,4 +47,4 @@ other-requires c =
 pub returns : goal.returns
 returns c =
     let memory : Memories = memories c.args.table.now c.args.index.now in
-    let size : length c.args.handle.now ≡ handle_size = handle-length c.args.handle.now c.requires.0.going.handle-is in record { closes = act-back c.args.handle.now size memory c.args.letter c.args.body.now c.other.new.handle (c.other.ensures.closes memory); upper_bound = c.other.ensures.upper_bound }
+    let size : length c.args.handle.now ≡ handle_size = handle-length c.args.handle.now c.requires.0.going.handle-is in record { closes = act-back c.args.handle.now size memory c.args.letter c.args.body.now c.other.new.handle (c.other.ensures.closes memory); low_half = c.other.ensures.low_half }

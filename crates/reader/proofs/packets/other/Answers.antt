@@ -10,6 +10,7 @@ use Rattle.handle.specs.Handle.{handle_size, head_of}
 use Rattle.handle.specs.declared.Head.{Head}
 use Rattle.handle.proofs.Rounds.{handle-length}
 use Rattle.reader.proofs.Ways.{login-long}
+use Rattle.reader.proofs.Fits.{number-low}
 use Rattle.reader.proofs.Judged.{other-login, other-rejected, other-heartbeat, other-end, other-skipped, other-refused, other-never}
 use Rattle.reader.proofs.packets.other.Goals as goal
 
@@ -45,34 +46,34 @@ pub returns-in-Login : goal.returns-in-Login
 returns-in-Login c =
     let lent : Lent c.args.handle.now = search (rules, c.slice_known-1) in
     let judged : (c.judge.result ≡ packet_of (head_of c.args.handle.now).line c.args.letter c.args.body.now) = c.judge.ensures ∙ ap (λ (x : Head). packet_of x.line c.args.letter c.args.body.now) c.read_head-head.ensures in
-    let long : 10 ≤ length c.args.body.now = search (login-long, rules) in record { closes = other-login c.args.handle.now c.requires.0 lent c.args.letter c.args.body.now judged long c.in-Login.is c.log_in.ensures; upper_bound = omega arith }
+    let long : 10 ≤ length c.args.body.now = search (login-long, rules) in record { closes = other-login c.args.handle.now c.requires.0 lent c.args.letter c.args.body.now judged long c.in-Login.is c.log_in.ensures; low_half = omega arith }
 
 pub returns-in-Rejected : goal.returns-in-Rejected
 returns-in-Rejected c =
     let lent : Lent c.args.handle.now = search (rules, c.slice_known-1) in
-    let judged : (c.judge.result ≡ packet_of (head_of c.args.handle.now).line c.args.letter c.args.body.now) = c.judge.ensures ∙ ap (λ (x : Head). packet_of x.line c.args.letter c.args.body.now) c.read_head-head.ensures in record { closes = other-rejected c.args.handle.now c.requires.0 lent c.args.letter c.args.body.now judged c.in-Rejected.is c.put_ended.ensures; upper_bound = omega arith }
+    let judged : (c.judge.result ≡ packet_of (head_of c.args.handle.now).line c.args.letter c.args.body.now) = c.judge.ensures ∙ ap (λ (x : Head). packet_of x.line c.args.letter c.args.body.now) c.read_head-head.ensures in record { closes = other-rejected c.args.handle.now c.requires.0 lent c.args.letter c.args.body.now judged c.in-Rejected.is c.put_ended.ensures; low_half = omega arith }
 
 pub returns-in-Message : goal.returns-in-Message
 returns-in-Message c =
     let lent : Lent c.args.handle.now = search (rules, c.slice_known-1) in
-    let judged : (c.judge.result ≡ packet_of (head_of c.args.handle.now).line c.args.letter c.args.body.now) = c.judge.ensures ∙ ap (λ (x : Head). packet_of x.line c.args.letter c.args.body.now) c.read_head-head.ensures in record { closes = λ t. other-never c.args.handle.now c.requires.0 lent c.args.letter c.args.body.now judged c.in-Message.is c.requires.1; upper_bound = omega arith }
+    let judged : (c.judge.result ≡ packet_of (head_of c.args.handle.now).line c.args.letter c.args.body.now) = c.judge.ensures ∙ ap (λ (x : Head). packet_of x.line c.args.letter c.args.body.now) c.read_head-head.ensures in record { closes = λ t. other-never c.args.handle.now c.requires.0 lent c.args.letter c.args.body.now judged c.in-Message.is c.requires.1; low_half = omega arith }
 
 pub returns-in-Heartbeat : goal.returns-in-Heartbeat
 returns-in-Heartbeat c =
     let lent : Lent c.args.handle.now = search (rules, c.slice_known-1) in
-    let judged : (c.judge.result ≡ packet_of (head_of c.args.handle.now).line c.args.letter c.args.body.now) = c.judge.ensures ∙ ap (λ (x : Head). packet_of x.line c.args.letter c.args.body.now) c.read_head-head.ensures in record { closes = other-heartbeat c.args.handle.now c.requires.0 lent c.args.letter c.args.body.now judged c.in-Heartbeat.is; upper_bound = omega arith }
+    let judged : (c.judge.result ≡ packet_of (head_of c.args.handle.now).line c.args.letter c.args.body.now) = c.judge.ensures ∙ ap (λ (x : Head). packet_of x.line c.args.letter c.args.body.now) c.read_head-head.ensures in record { closes = other-heartbeat c.args.handle.now c.requires.0 lent c.args.letter c.args.body.now judged c.in-Heartbeat.is; low_half = omega arith }
 
 pub returns-in-End : goal.returns-in-End
 returns-in-End c =
     let lent : Lent c.args.handle.now = search (rules, c.slice_known-1) in
-    let judged : (c.judge.result ≡ packet_of (head_of c.args.handle.now).line c.args.letter c.args.body.now) = c.judge.ensures ∙ ap (λ (x : Head). packet_of x.line c.args.letter c.args.body.now) c.read_head-head.ensures in record { closes = other-end c.args.handle.now c.requires.0 lent c.args.letter c.args.body.now judged c.in-End.is c.put_ended-in-End.ensures; upper_bound = omega arith }
+    let judged : (c.judge.result ≡ packet_of (head_of c.args.handle.now).line c.args.letter c.args.body.now) = c.judge.ensures ∙ ap (λ (x : Head). packet_of x.line c.args.letter c.args.body.now) c.read_head-head.ensures in record { closes = other-end c.args.handle.now c.requires.0 lent c.args.letter c.args.body.now judged c.in-End.is c.put_ended-in-End.ensures; low_half = omega arith }
 
 pub returns-in-Skipped : goal.returns-in-Skipped
 returns-in-Skipped c =
     let lent : Lent c.args.handle.now = search (rules, c.slice_known-1) in
-    let judged : (c.judge.result ≡ packet_of (head_of c.args.handle.now).line c.args.letter c.args.body.now) = c.judge.ensures ∙ ap (λ (x : Head). packet_of x.line c.args.letter c.args.body.now) c.read_head-head.ensures in record { closes = other-skipped c.args.handle.now c.requires.0 lent c.args.letter c.args.body.now judged c.in-Skipped.is; upper_bound = omega arith }
+    let judged : (c.judge.result ≡ packet_of (head_of c.args.handle.now).line c.args.letter c.args.body.now) = c.judge.ensures ∙ ap (λ (x : Head). packet_of x.line c.args.letter c.args.body.now) c.read_head-head.ensures in record { closes = other-skipped c.args.handle.now c.requires.0 lent c.args.letter c.args.body.now judged c.in-Skipped.is; low_half = omega arith }
 
 pub returns-in-Refused : goal.returns-in-Refused
 returns-in-Refused c =
     let lent : Lent c.args.handle.now = search (rules, c.slice_known-1) in
-    let judged : (c.judge.result ≡ packet_of (head_of c.args.handle.now).line c.args.letter c.args.body.now) = c.judge.ensures ∙ ap (λ (x : Head). packet_of x.line c.args.letter c.args.body.now) c.read_head-head.ensures in record { closes = other-refused c.args.handle.now c.requires.0 lent c.args.letter c.args.body.now judged c.of_packet.result c.in-Refused.is c.of_packet.ensures c.number.ensures c.refuse.ensures.value c.refuse.ensures.handle_after; upper_bound = omega (arith, c.refuse.ensures.value, c.number) }
+    let judged : (c.judge.result ≡ packet_of (head_of c.args.handle.now).line c.args.letter c.args.body.now) = c.judge.ensures ∙ ap (λ (x : Head). packet_of x.line c.args.letter c.args.body.now) c.read_head-head.ensures in record { closes = other-refused c.args.handle.now c.requires.0 lent c.args.letter c.args.body.now judged c.from.result c.in-Refused.is c.from.ensures c.refuse.ensures.number c.refuse.ensures.handle_after; low_half = omega (arith, c.refuse.ensures.number, number-low c.from.result) }
