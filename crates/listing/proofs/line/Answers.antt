@@ -22,4 +22,4 @@ pub some_line-size-requires : goal.some_line-size-requires
 some_line-size-requires c = (search rules, search (told-fitting, rules))
 
 pub returns : goal.returns
-returns c = (search (shown-line, rules), c.some_line-size.ensures.value.1)
+returns c = (search (shown-line, rules), c.some_line-size.ensures.1.1)

@@ -3,4 +3,4 @@ use Rattle.listing.proofs.Puts.{word_line}
 use Rattle.listing.proofs.word_alone.Goals as goal
 
 pub returns : goal.returns
-returns c = record { out_after = (word_line _ _ c.requires.0 c.requires.1 c.copy.ensures c.write.ensures).0; value = (word_line _ _ c.requires.0 c.requires.1 c.copy.ensures c.write.ensures).1 }
+returns c = word_line _ _ c.requires.0 c.requires.1 c.copy.ensures c.write.ensures
