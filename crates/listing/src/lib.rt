@@ -123,8 +123,8 @@ fn put_side(out: &mut [u8], at: usize, row: &[u8], side: Side) -> usize
     at + 2
 }
 
-fn row_line(row: &[u8], out: &mut [u8]) -> usize
-    requires { (line_size ≤ length out.old) × (row_size ≤ length row.now) }
+fn row_line(row: &[u8], out: &mut [u8; LINE_SIZE]) -> usize
+    requires { row_size ≤ length row.now }
     ensures { Written out.old (row_line row.now) out.new result }
 {
     let id = fields::id(row) as u64;
@@ -137,8 +137,8 @@ fn row_line(row: &[u8], out: &mut [u8]) -> usize
 }
 
 // A word, a number and the line's end.
-fn word_and_number(word: &[u8], v: u64, out: &mut [u8]) -> usize
-    requires { (line_size ≤ length out.old) × (length word.now ≤ 8) }
+fn word_and_number(word: &[u8], v: u64, out: &mut [u8; LINE_SIZE]) -> usize
+    requires { length word.now ≤ 8 }
     ensures { Written out.old (word.now ++ (chars v ++ line_end)) out.new result }
 {
     let n = word.len();
@@ -149,8 +149,8 @@ fn word_and_number(word: &[u8], v: u64, out: &mut [u8]) -> usize
 }
 
 // A word and the line's end.
-fn word_alone(word: &[u8], out: &mut [u8]) -> usize
-    requires { (line_size ≤ length out.old) × (length word.now ≤ 8) }
+fn word_alone(word: &[u8], out: &mut [u8; LINE_SIZE]) -> usize
+    requires { length word.now ≤ 8 }
     ensures { Written out.old (word.now ++ line_end) out.new result }
 {
     let n = word.len();
@@ -159,8 +159,7 @@ fn word_alone(word: &[u8], out: &mut [u8]) -> usize
     n + 1
 }
 
-fn last_line(ending: Ending, out: &mut [u8]) -> usize
-    requires { line_size ≤ length out.old }
+fn last_line(ending: Ending, out: &mut [u8; LINE_SIZE]) -> usize
     ensures { Written out.old (last_line ending) out.new result }
 {
     match ending {
@@ -170,8 +169,7 @@ fn last_line(ending: Ending, out: &mut [u8]) -> usize
     }
 }
 
-fn next_line(next: u64, out: &mut [u8]) -> usize
-    requires { line_size ≤ length out.old }
+fn next_line(next: u64, out: &mut [u8; LINE_SIZE]) -> usize
     ensures { Written out.old (next_line next) out.new result }
 {
     word_and_number(b"next ", next, out)
@@ -183,9 +181,9 @@ fn some_line(
     rows: usize,
     table: &[u8],
     ending: Ending,
-    out: &mut [u8],
+    out: &mut [u8; LINE_SIZE],
 ) -> usize
-    requires { (line_size ≤ length out.old) × Fitting rows table.now }
+    requires { Fitting rows table.now }
     ensures { Written out.old (line_in k next rows table.now ending) out.new result }
 {
     if k == 0 {
