@@ -19,16 +19,12 @@ use Rattle.message.specs.declared.Side.{Side}
 use Rattle.message.specs.declared.Side.TheVariants.{Bid, Ask}
 use Rattle.row.specs.Fields.{row_size, id_of, state_of, sides_of, price_of, has_seen}
 use Rattle.table.specs.Memory.{rows_fit, row}
-use Rattle.listing.specs.Lines.{none_word, ok_word, end_word, refused_word, line_end, next_line, dash, dollars, price_text, state_text, side_text, row_line, last_line, line_in, line_size, no_line, Short, shown_of}
+use Rattle.listing.specs.Lines.{none_word, ok_word, end_word, refused_word, line_end, next_line, dash, dollars, price_text, state_text, side_text, row_line, last_line, line_in, line_size, no_line, Put, Written, Short, shown_of}
 use Rattle.listing.specs.declared.Text.{Text}
 use Rattle.listing.specs.declared.Shown.{Shown}
 use Rattle.listing.specs.declared.Shown.TheVariants.{Line, Past, Unfit}
 use Rattle.listing.specs.declared.Ending.{Ending}
 use Rattle.listing.specs.declared.Ending.TheVariants.{RanOut, Ended, Refused}
-
--- `ys` is put from `at` on, it ends at `r`, and that is no more than so many bytes on
-abbrev pub Put : List ℕ → ℕ → List ℕ → List ℕ → ℕ → ℕ → Type 0
-Put xs at ys zs r most = (zs ≡ overlay xs at ys) × ((r ≡ at + length ys) × (r ≤ at + most))
 
 -- a piece, and then another
 pub put_then : (xs : List ℕ) (at : ℕ) (ys zs : List ℕ) (most more : ℕ) {us vs : List ℕ} {a r : ℕ} → at + (most + more) ≤ length xs
@@ -82,9 +78,9 @@ module _ (xs : List ℕ) (at : ℕ) (price : Option ℕ) where
   unfolding price_text
   above-put n e p = rw e p
 
-  pub none-put : {zs : List ℕ} → price ≡ None → zs ≡ overlay xs at (part none_word 0 4) → Put xs at (price_text price) zs (at + 4) 25
+  pub none-put : {zs : List ℕ} → price ≡ None → zs ≡ overlay xs at none_word → Put xs at (price_text price) zs (at + 4) 25
   unfolding price_text
-  none-put e p = rw e (p ∙ ap (overlay xs at) (part-whole none_word 4 refl), (refl, omega arith))
+  none-put e p = rw e (p, (refl, omega arith))
 
 -- ---- a row
 
@@ -158,10 +154,6 @@ module _ (xs word : List ℕ) {us : List ℕ} (h : line_size ≤ length xs) (sho
       (line.0, (line.1.0 ∙ zero-add (length (word ++ line_end)), omega (arith, line.1.1)))
 
 -- ---- which line
-
--- an answer that is the line that is asked for
-abbrev Written : List ℕ → List ℕ → List ℕ → ℕ → Type 0
-Written xs ys zs r = (zs ≡ overlay xs 0 ys) × ((r ≡ length ys) × (r ≤ line_size))
 
 pub line_as : (xs : List ℕ) (ys ys' : List ℕ) {zs : List ℕ} {r : ℕ} → ys ≡ ys' → Written xs ys zs r → Written xs ys' zs r
 line_as xs ys ys' e p = (p.0 ∙ ap (overlay xs 0) e, (p.1.0 ∙ ap length e, p.1.1))

@@ -1,6 +1,6 @@
 -- The listing's lines.
 -- Assumes nothing.
-use Rattle.std.specs.Prelude.{ℕ, zero, suc, ◌+◌, ◌-◌, ◌/◌, ◌≤◌, Bool, ◌&&◌, cond, List, [], ◌∷◌, ◌++◌, eqb, leb, length, replicate}
+use Rattle.std.specs.Prelude.{ℕ, zero, suc, ◌+◌, ◌-◌, ◌/◌, ◌≤◌, Bool, ◌&&◌, cond, List, [], ◌∷◌, ◌++◌, ◌≡◌, eqb, leb, length, replicate}
 use Rattle.field.specs.Bytes.{overlay}
 use Rattle.field.specs.Decimal.{chars, digit_chars}
 use Rattle.std.specs.Prelude.{Option}
@@ -105,6 +105,16 @@ abbrev pub Short : Shown → Type 0
 Short (Line n) = n ≤ line_size
 Short Past = Unit
 Short Unfit = Unit
+
+-- ---- text that is put into a buffer
+
+-- `ys` is put from `at` on, it ends at `r`, and that is no more than so many bytes on
+abbrev pub Put : List ℕ → ℕ → List ℕ → List ℕ → ℕ → ℕ → Type 0
+Put xs at ys zs r most = (zs ≡ overlay xs at ys) × ((r ≡ at + length ys) × (r ≤ at + most))
+
+-- a whole line is put from the front on, and its length answered
+abbrev pub Written : List ℕ → List ℕ → List ℕ → ℕ → Type 0
+Written xs ys zs r = (zs ≡ overlay xs 0 ys) × ((r ≡ length ys) × (r ≤ line_size))
 
 -- the same as text, empty where no line is shown
 unfoldable pub line_of : ℕ → ℕ → ℕ → List ℕ → Ending → List ℕ

@@ -6,16 +6,16 @@ ghost use Rattle.field.specs.Bytes.{overlay};
 ghost use Rattle.field.specs.Decimal.{chars};
 ghost use Rattle.row.specs.Fields.{row_size};
 ghost use Rattle.table.specs.Memory.{Fitting};
-ghost use Rattle.listing.specs.Lines.{ending_of, line_end, next_line, dash, dollars, price_text, state_text, side_text, row_line, last_line, line_in, line_size, Short, shown_of};
+ghost use Rattle.listing.specs.Lines.{ending_of, line_end, next_line, dash, dollars, price_text, state_text, side_text, row_line, last_line, line_in, line_size, Put, Written, Short, shown_of};
 
-use message::{Side};
+use message::Side;
 use row::fields;
 
 // No line is longer.
 pub const LINE_SIZE: usize = 80;
 
-// What there is to show for the number of a line.
-#[derive(Clone, Copy)]
+// What there is to show for the number of a line. Three ways with names of their own, of which two are no errors of one kind.
+#[derive(Clone, Copy, Debug, PartialEq, Eq)]
 pub enum Shown {
     // A line of so many bytes.
     Line(usize),
@@ -25,15 +25,15 @@ pub enum Shown {
     Unfit,
 }
 
-// The bytes of a line, and zeros behind them.
-#[derive(Clone, Copy)]
+// The bytes of a line, and zeros behind them: fixed memory, with no heap, whose length stands in `shown`, as `nelqubat_line` hands it on to C.
+#[derive(Clone, Copy, Debug, PartialEq, Eq)]
 pub struct Text {
     pub text: [u8; LINE_SIZE],
     pub shown: Shown,
 }
 
 // How the input ended.
-#[derive(Clone, Copy)]
+#[derive(Clone, Copy, Debug, PartialEq, Eq)]
 pub enum Ending {
     RanOut,
     Ended,
@@ -53,12 +53,12 @@ pub fn ending_for(refusal: u8, ended: bool) -> Ending
     Ending::RanOut
 }
 
-// Each of the functions below puts its text from `at` on, and answers where it ends.
+// Each of the functions below puts its text from `at` on, and answers where it ends, which is where the next one begins: a place, not a part of the
+// buffer, so that one contract (`Put`) says of each what it leaves of the whole.
 
 fn number(out: &mut [u8], at: usize, v: u64) -> usize
     requires { at + 20 ≤ length out.old }
-    ensures out_after { out.new ≡ overlay out.old at (chars v) }
-    ensures value { (result ≡ at + length (chars v)) × (result ≤ at + 20) }
+    ensures { Put out.old at (chars v) out.new result 20 }
 {
     let n = field::decimal::digit_count(v);
     field::decimal::write_digits(out, at, n, v);
@@ -67,8 +67,7 @@ fn number(out: &mut [u8], at: usize, v: u64) -> usize
 
 fn put_dollars(out: &mut [u8], at: usize, price: u32) -> usize
     requires { at + 25 ≤ length out.old }
-    ensures out_after { out.new ≡ overlay out.old at (dollars price) }
-    ensures value { (result ≡ at + length (dollars price)) × (result ≤ at + 25) }
+    ensures { Put out.old at (dollars price) out.new result 25 }
 {
     let whole = price as u64;
     let point = number(out, at, whole / 10000);
@@ -80,13 +79,12 @@ fn put_dollars(out: &mut [u8], at: usize, price: u32) -> usize
 // `none` where there is no price, which is not `-`, a side that was never seen.
 fn put_price(out: &mut [u8], at: usize, price: Option<u32>) -> usize
     requires { at + 25 ≤ length out.old }
-    ensures out_after { out.new ≡ overlay out.old at (price_text price) }
-    ensures value { (result ≡ at + length (price_text price)) × (result ≤ at + 25) }
+    ensures { Put out.old at (price_text price) out.new result 25 }
 {
     match price {
         Some(n) => put_dollars(out, at, n),
         None => {
-            field::copy(b"none", 0, 4, out, at);
+            field::put::<4>(out, at, b"none");
             at + 4
         }
     }
@@ -103,8 +101,7 @@ fn state_mark(state: u8) -> u8
 
 fn put_state(out: &mut [u8], at: usize, row: &[u8]) -> usize
     requires { (at + 2 ≤ length out.old) × (row_size ≤ length row.now) }
-    ensures out_after { out.new ≡ overlay out.old at (state_text row.now) }
-    ensures value { (result ≡ at + length (state_text row.now)) × (result ≤ at + 2) }
+    ensures { Put out.old at (state_text row.now) out.new result 2 }
 {
     let state = state_mark(fields::state(row));
     field::write::<u8>(out, at, b' ');
@@ -114,8 +111,7 @@ fn put_state(out: &mut [u8], at: usize, row: &[u8]) -> usize
 
 fn put_side(out: &mut [u8], at: usize, row: &[u8], side: Side) -> usize
     requires { (at + 26 ≤ length out.old) × (row_size ≤ length row.now) }
-    ensures out_after { out.new ≡ overlay out.old at (side_text side row.now) }
-    ensures value { (result ≡ at + length (side_text side row.now)) × (result ≤ at + 26) }
+    ensures { Put out.old at (side_text side row.now) out.new result 26 }
 {
     let seen = fields::has_seen(side, fields::sides(row));
     let price = fields::price(row, side);
@@ -127,10 +123,9 @@ fn put_side(out: &mut [u8], at: usize, row: &[u8], side: Side) -> usize
     at + 2
 }
 
-fn row_line(row: &[u8], out: &mut [u8]) -> usize
-    requires { (line_size ≤ length out.old) × (row_size ≤ length row.now) }
-    ensures out_after { out.new ≡ overlay out.old 0 (row_line row.now) }
-    ensures value { (result ≡ length (row_line row.now)) × (result ≤ line_size) }
+fn row_line(row: &[u8], out: &mut [u8; LINE_SIZE]) -> usize
+    requires { row_size ≤ length row.now }
+    ensures { Written out.old (row_line row.now) out.new result }
 {
     let id = fields::id(row) as u64;
     let state = number(out, 0, id);
@@ -142,10 +137,9 @@ fn row_line(row: &[u8], out: &mut [u8]) -> usize
 }
 
 // A word, a number and the line's end.
-fn word_and_number(word: &[u8], v: u64, out: &mut [u8]) -> usize
-    requires { (line_size ≤ length out.old) × (length word.now ≤ 8) }
-    ensures out_after { out.new ≡ overlay out.old 0 (word.now ++ (chars v ++ line_end)) }
-    ensures value { (result ≡ length (word.now ++ (chars v ++ line_end))) × (result ≤ line_size) }
+fn word_and_number(word: &[u8], v: u64, out: &mut [u8; LINE_SIZE]) -> usize
+    requires { length word.now ≤ 8 }
+    ensures { Written out.old (word.now ++ (chars v ++ line_end)) out.new result }
 {
     let n = word.len();
     field::copy(word, 0, n, out, 0);
@@ -155,10 +149,9 @@ fn word_and_number(word: &[u8], v: u64, out: &mut [u8]) -> usize
 }
 
 // A word and the line's end.
-fn word_alone(word: &[u8], out: &mut [u8]) -> usize
-    requires { (line_size ≤ length out.old) × (length word.now ≤ 8) }
-    ensures out_after { out.new ≡ overlay out.old 0 (word.now ++ line_end) }
-    ensures value { (result ≡ length (word.now ++ line_end)) × (result ≤ line_size) }
+fn word_alone(word: &[u8], out: &mut [u8; LINE_SIZE]) -> usize
+    requires { length word.now ≤ 8 }
+    ensures { Written out.old (word.now ++ line_end) out.new result }
 {
     let n = word.len();
     field::copy(word, 0, n, out, 0);
@@ -166,10 +159,8 @@ fn word_alone(word: &[u8], out: &mut [u8]) -> usize
     n + 1
 }
 
-fn last_line(ending: Ending, out: &mut [u8]) -> usize
-    requires { line_size ≤ length out.old }
-    ensures out_after { out.new ≡ overlay out.old 0 (last_line ending) }
-    ensures value { (result ≡ length (last_line ending)) × (result ≤ line_size) }
+fn last_line(ending: Ending, out: &mut [u8; LINE_SIZE]) -> usize
+    ensures { Written out.old (last_line ending) out.new result }
 {
     match ending {
         Ending::RanOut => word_alone(b"ok", out),
@@ -178,10 +169,8 @@ fn last_line(ending: Ending, out: &mut [u8]) -> usize
     }
 }
 
-fn next_line(next: u64, out: &mut [u8]) -> usize
-    requires { line_size ≤ length out.old }
-    ensures out_after { out.new ≡ overlay out.old 0 (next_line next) }
-    ensures value { (result ≡ length (next_line next)) × (result ≤ line_size) }
+fn next_line(next: u64, out: &mut [u8; LINE_SIZE]) -> usize
+    ensures { Written out.old (next_line next) out.new result }
 {
     word_and_number(b"next ", next, out)
 }
@@ -192,11 +181,10 @@ fn some_line(
     rows: usize,
     table: &[u8],
     ending: Ending,
-    out: &mut [u8],
+    out: &mut [u8; LINE_SIZE],
 ) -> usize
-    requires { (line_size ≤ length out.old) × Fitting rows table.now }
-    ensures out_after { out.new ≡ overlay out.old 0 (line_in k next rows table.now ending) }
-    ensures value { (result ≡ length (line_in k next rows table.now ending)) × (result ≤ line_size) }
+    requires { Fitting rows table.now }
+    ensures { Written out.old (line_in k next rows table.now ending) out.new result }
 {
     if k == 0 {
         return next_line(next, out);

@@ -9,7 +9,8 @@ use lib.ListN.{length}
 use Rattle.field.specs.Bytes.{part, overlay}
 use Rattle.field.specs.Decimal.{chars, digit_chars, digit_count}
 use Rattle.field.proofs.Parts.{part-whole}
-use Rattle.listing.proofs.Puts.{Put, put_then, number_put}
+use Rattle.listing.specs.Lines.{Put}
+use Rattle.listing.proofs.Puts.{put_then, number_put}
 use Rattle.image.specs.declared.Way.{Way}
 use Rattle.image.specs.declared.Way.TheVariants.{Forward, Back}
 use Rattle.topmove.specs.Line.{version_word, comma, rows_word, lost_word, line_end, start_of, rest_of, line_of, line_size}

@@ -19,7 +19,7 @@ pub returns-then-rows-k : goal.returns-then-rows-k
 returns-then-rows-k c = (search (shown-past, rules), tt)
 
 pub some_line-size-requires : goal.some_line-size-requires
-some_line-size-requires c = (search rules, search (told-fitting, rules))
+some_line-size-requires c = search (told-fitting, rules)
 
 pub returns : goal.returns
-returns c = (search (shown-line, rules), c.some_line-size.ensures.value.1)
+returns c = (search (shown-line, rules), c.some_line-size.ensures.1.1)

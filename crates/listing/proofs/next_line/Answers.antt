@@ -6,4 +6,4 @@ use Rattle.listing.proofs.next_line.Goals as goal
 
 pub returns : goal.returns
 unfolding next_line
-returns c = record { out_after = (line_as _ _ _ refl (c.word_and_number.ensures.out_after, c.word_and_number.ensures.value)).0; value = (line_as _ _ _ refl (c.word_and_number.ensures.out_after, c.word_and_number.ensures.value)).1 }
+returns c = line_as _ _ _ refl c.word_and_number.ensures

@@ -3,4 +3,4 @@ use Rattle.listing.proofs.Puts.{number_put}
 use Rattle.listing.proofs.number.Goals as goal
 
 pub returns : goal.returns
-returns c = record { out_after = (number_put _ _ _ c.digit_count-n.ensures.count c.digit_count-n.ensures.most c.write_digits.ensures).0; value = (number_put _ _ _ c.digit_count-n.ensures.count c.digit_count-n.ensures.most c.write_digits.ensures).1 }
+returns c = number_put _ _ _ c.digit_count-n.ensures.count c.digit_count-n.ensures.most c.write_digits.ensures

@@ -3,7 +3,7 @@ use Rattle.listing.proofs.Puts.{side-put, unseen-put}
 use Rattle.listing.proofs.put_side.Goals as goal
 
 pub returns-then-seen : goal.returns-then-seen
-returns-then-seen c = record { out_after = (side-put _ _ _ _ c.requires.0 c.sides.ensures c.has_seen-seen.ensures c.write.ensures c.if-seen.true c.price-price.ensures (c.put_price.ensures.out_after, c.put_price.ensures.value)).0; value = (side-put _ _ _ _ c.requires.0 c.sides.ensures c.has_seen-seen.ensures c.write.ensures c.if-seen.true c.price-price.ensures (c.put_price.ensures.out_after, c.put_price.ensures.value)).1 }
+returns-then-seen c = side-put _ _ _ _ c.requires.0 c.sides.ensures c.has_seen-seen.ensures c.write.ensures c.if-seen.true c.price-price.ensures c.put_price.ensures
 
 pub returns : goal.returns
-returns c = record { out_after = (unseen-put _ _ _ _ c.requires.0 c.sides.ensures c.has_seen-seen.ensures c.write.ensures c.if-seen.false c.write-2.ensures).0; value = (unseen-put _ _ _ _ c.requires.0 c.sides.ensures c.has_seen-seen.ensures c.write.ensures c.if-seen.false c.write-2.ensures).1 }
+returns c = unseen-put _ _ _ _ c.requires.0 c.sides.ensures c.has_seen-seen.ensures c.write.ensures c.if-seen.false c.write-2.ensures

@@ -4,4 +4,4 @@ use Rattle.listing.proofs.Puts.{state-put}
 use Rattle.listing.proofs.put_state.Goals as goal
 
 pub returns : goal.returns
-returns c = record { out_after = (state-put _ _ _ c.requires.0 (search rules) c.state.ensures c.state_mark-state.ensures c.write.ensures c.write-2.ensures).0; value = (state-put _ _ _ c.requires.0 (search rules) c.state.ensures c.state_mark-state.ensures c.write.ensures c.write-2.ensures).1 }
+returns c = state-put _ _ _ c.requires.0 (search rules) c.state.ensures c.state_mark-state.ensures c.write.ensures c.write-2.ensures

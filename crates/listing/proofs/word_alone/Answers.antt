@@ -1,6 +1,7 @@
 -- `listing::word_alone` meets its contract.
+use borrow.Author.Rules.{rules}
 use Rattle.listing.proofs.Puts.{word_line}
 use Rattle.listing.proofs.word_alone.Goals as goal
 
 pub returns : goal.returns
-returns c = record { out_after = (word_line _ _ c.requires.0 c.requires.1 c.copy.ensures c.write.ensures).0; value = (word_line _ _ c.requires.0 c.requires.1 c.copy.ensures c.write.ensures).1 }
+returns c = word_line _ _ (search rules) c.requires c.copy.ensures c.write.ensures

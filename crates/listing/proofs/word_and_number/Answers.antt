@@ -1,6 +1,7 @@
 -- `listing::word_and_number` meets its contract.
+use borrow.Author.Rules.{rules}
 use Rattle.listing.proofs.Puts.{number-line}
 use Rattle.listing.proofs.word_and_number.Goals as goal
 
 pub returns : goal.returns
-returns c = record { out_after = (number-line _ _ c.requires.0 c.requires.1 c.copy.ensures _ (c.number-end.ensures.out_after, c.number-end.ensures.value) c.write.ensures).0; value = (number-line _ _ c.requires.0 c.requires.1 c.copy.ensures _ (c.number-end.ensures.out_after, c.number-end.ensures.value) c.write.ensures).1 }
+returns c = number-line _ _ (search rules) c.requires c.copy.ensures _ c.number-end.ensures c.write.ensures
