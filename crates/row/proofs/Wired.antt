@@ -23,7 +23,7 @@ use Rattle.message.specs.declared.Side.{Side}
 use Rattle.message.specs.declared.Side.TheVariants.{Bid, Ask}
 use Rattle.message.proofs.Amounts.{amount-from}
 use Rattle.message.proofs.Layouts.{fields-run}
-use Rattle.message.proofs.Tested.{quotes, quote-none, no-quote}
+use Rattle.message.proofs.Tested.{quotes, quote-none}
 use Rattle.message.proofs.Puts.{numbers-put}
 use Rattle.row.specs.Fields.{row_size, side_at, side_time_at, sides_of, seen_with}
 use Rattle.row.specs.Changes.{changed, purge, directory_changes, unchanged, new_row, action_changes, sides_changes, own_changes, quote_changes}
@@ -249,4 +249,4 @@ last-room bs b a q B A some e = by (ℕ_discrete (get_or bs 0 0) 81)
   where
     by : Dec (get_or bs 0 0 ≡ 81) → 56 ≤ length bs
     by (yes is) = arm-room 81 56 bs is e refl
-    by (no not) = absurd (some (no-quote (get_or bs 0 0) refl (sym (quote-none (get_or bs 0 0) q not b a B A))))
+    by (no not) = absurd (some (sym (quote-none (get_or bs 0 0) q not b a B A)))
