@@ -39,7 +39,6 @@ pub fn back(row: &mut [u8])
 }
 
 // Is the side seen, and its time known?
-#[tactic(auto, unfolding(crate::specs::Moves::knows_time))]
 fn knows_time(row: &[u8], side: Side) -> bool
     requires { row_size ≤ length row.now }
     ensures { result ≡ knows_time side row.now }

@@ -55,7 +55,6 @@ fn stamp_keeps(row: &[u8]) -> bool
     limits::time_keeps(row, 98)
 }
 
-#[tactic(auto, unfolding(crate::specs::Rules::spare_keeps))]
 fn spare_keeps(row: &[u8]) -> bool
     requires { row_size ≤ length row.now }
     ensures { result ≡ spare_keeps row.now }
