@@ -11,17 +11,16 @@ use borrow.Author.Tests.{le-leb, lt-leb, leb-true, leb-false}
 use borrow.Rule.Slice.PartMut.{put_mid}
 use lib.Dec.{leb}
 use lib.ListN.{length, take, drop}
-use Rattle.field.specs.Bytes.{part, overlay, bytes_be}
+use Rattle.field.specs.Bytes.{part, overlay}
 use Rattle.field.proofs.Parts.{part_length, part-part, part_none, part-overlay, overlay-again, overlay-length, part-back}
-use Rattle.block.specs.Block.{block_size, head_size, body_size, checked_size, check_of, head_bytes}
-use Rattle.block.specs.declared.Head.{Head}
+use Rattle.block.specs.Block.{block_size, body_size}
 use Rattle.row.specs.Fields.{row_size}
 use Rattle.row.specs.Moves.{known_times}
 use Rattle.table.specs.Memory.{most_rows, table_size, row_at, row, each_row}
 use Rattle.table.proofs.Each.{rows_whole, each-length, each-past, each_row_lem}
-use Rattle.image.specs.Shape.{page_rows, pages_for, blocks_for, most_blocks, head_for, PagesIn, place_of, first_page}
+use Rattle.image.specs.Shape.{page_rows, pages_for, blocks_for, most_blocks, PagesIn, place_of, first_page}
 use Rattle.image.specs.Header.{header_of}
-use Rattle.image.specs.Save.{page_of, body_of, saved_block, blocks, image_in, saving, unsaved}
+use Rattle.image.specs.Save.{Sizes, page_of, image_in, saving, unsaved}
 use Rattle.image.specs.Restore.{count_of, verdict_in, verdict_of, rows_of}
 use Rattle.image.specs.Moves.{used_in, wanted_by, version_after, along, moved_of, moved_by, move_of, known_in, lost_by, lost_of}
 use Rattle.image.specs.declared.Header.{Header}
@@ -36,7 +35,6 @@ use Rattle.image.proofs.Laid.{pages-part}
 use Rattle.image.proofs.Zeros.{cleared-own}
 use Rattle.image.proofs.Again.{Kept, kept, count-is, pages-are, within, memory_start, rows_few, rows-length}
 use Rattle.image.proofs.Renewed.{along-size, moved_row, moved_length, moved-blank}
-use Rattle.image.proofs.Puts.{saved-put, blocks-turn}
 use Rattle.image.proofs.Moved.{fit, any-accepted, rows_are}
 
 pub used-four : (rows k : ℕ) → page_rows ≤ rows - k * page_rows → page_rows ≡ used_in rows k
@@ -183,11 +181,6 @@ module _ (m : Moving) where
     pub page-used : used_in m.header.board.rows k ≤ page_rows
     page-used = used-small m.image.now m.judged m.way m.header.board.rows k rows-are h
 
-record Sizes (h : Header) (mem : List ℕ) : Type 0 where
-  session : length h.session ≡ 10
-  sized : length mem ≡ table_size
-  few : h.board.rows ≤ most_rows
-
 module _ (image : List ℕ) (a : verdict_of image ≡ Ok (tt {0})) (h : Header) (eh : h ≡ header_of image) where
   pub rows-here : h.board.rows ≤ most_rows
   rows-here = rw eh (rows_few image (kept Any image a).0)
@@ -195,30 +188,11 @@ module _ (image : List ℕ) (a : verdict_of image ≡ Ok (tt {0})) (h : Header) 
   pub count-here : (count_of image ≡ blocks_for h.board.rows) × (count_of image * block_size ≡ length image) × (count_of image ≤ most_blocks)
   count-here = let k = (kept Any image a).0 in (rw eh (sym (count-is image k)), k.size.whole, k.size.few)
 
-  pub count_small : (count : ℕ) → count ≡ blocks_for h.board.rows → count ≤ most_blocks
-  count_small count e = omega (arith, count-here)
-
   module _ (way : Way) where
-    sizes : Sizes h (each_row (along way) h.board.rows (rows_of image))
+    pub sizes : Sizes h (each_row (along way) h.board.rows (rows_of image))
     sizes =
         let k = (kept Any image a).0 in
         rw eh (record { session = (fit image k way).session; sized = moved_length image k way; few = rows_few image k })
-
-    pub block-moved : (version : ℕ) (xs : List ℕ) (k count : ℕ) {head : Head} {us vs zs : List ℕ} → k * block_size + block_size ≤ length xs
-        → count ≡ blocks_for h.board.rows → k < count → head ≡ head_for count version h.next k
-        → us ≡ overlay xs (k * block_size) (head_bytes head)
-        → vs ≡ overlay us (k * block_size + head_size) (body_of h (each_row (along way) h.board.rows (rows_of image)) k)
-        → zs ≡ overlay vs (k * block_size + checked_size) (bytes_be 2 (check_of (part vs (k * block_size) checked_size)))
-        → zs ≡ overlay xs (k * block_size) (saved_block version h (each_row (along way) h.board.rows (rows_of image)) k)
-    block-moved version xs k count f ec kc eq a b c =
-        saved-put version h (each_row (along way) h.board.rows (rows_of image)) sizes.session sizes.sized sizes.few xs k count f ec kc eq a b c
-
-    pub moved-turn : (version : ℕ) (xs : List ℕ) (k count : ℕ) {y z : List ℕ} → count * block_size ≤ length xs → count ≡ blocks_for h.board.rows → k < count
-        → y ≡ overlay xs 0 (blocks version h (each_row (along way) h.board.rows (rows_of image)) k)
-        → z ≡ overlay y (k * block_size) (saved_block version h (each_row (along way) h.board.rows (rows_of image)) k)
-        → z ≡ overlay xs 0 (blocks version h (each_row (along way) h.board.rows (rows_of image)) (k + 1))
-    moved-turn version xs k count f ec g ey ez =
-        blocks-turn version h (each_row (along way) h.board.rows (rows_of image)) sizes.session sizes.sized sizes.few xs k count f ec g ey ez
 
 -- the rows of an image that is restored have room in the table
 pub rows-room : (wanted : Wanted) (image : List ℕ) (h : Header) {v : Result (Unit {0}) Refusal} → v ≡ verdict_in wanted image → v ≡ Ok (tt {0}) → h ≡ header_of image

@@ -1,9 +1,9 @@
 -- The image of a table, and what saving answers and leaves in the output.
 -- Assumes nothing.
-use Rattle.std.specs.Prelude.{ℕ, zero, suc, ◌-◌, ◌*◌, ◌&&◌, cond, List, [], ◌++◌, leb, length, replicate, Result, Ok, Err}
+use Rattle.std.specs.Prelude.{ℕ, zero, suc, ◌≡◌, ◌≤◌, ◌-◌, ◌*◌, ◌&&◌, cond, List, [], ◌++◌, leb, length, replicate, Result, Ok, Err}
 use Rattle.field.specs.Bytes.{part, overlay}
 use Rattle.block.specs.Block.{block_size, body_size, block_of}
-use Rattle.table.specs.Memory.{table_size, row_at}
+use Rattle.table.specs.Memory.{most_rows, table_size, row_at}
 use Rattle.row.specs.Rules.{newest}
 use Rattle.table.specs.Rules.{rows_keep}
 use Rattle.image.specs.Shape.{blocks_for, head_for}
@@ -53,6 +53,12 @@ image_of h mem = image_in newest h mem
 
 unfoldable pub size_for : ℕ → ℕ
 size_for rows = blocks_for rows * block_size
+
+-- what such an image asks of its header and of its table memory
+pub record Sizes (h : Header) (mem : List ℕ) : Type 0 where
+  pub session : length h.session ≡ 10
+  pub sized : length mem ≡ table_size
+  pub few : h.board.rows ≤ most_rows
 
 -- ---- saving
 

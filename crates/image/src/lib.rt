@@ -7,7 +7,7 @@ ghost use Rattle.image.specs.Save.{refusal_number, saving, save_of};
 ghost use Rattle.std.specs.Prelude.{Err};
 ghost use Rattle.image.specs.Restore.{restoring, restored, restore_of};
 
-use crate::pages::Source;
+use crate::pages::{Keeping, Source};
 use crate::rows::Pages;
 use table::Board;
 
@@ -130,12 +130,8 @@ pub fn save(h: Header, table: &[u8], out: &mut [u8]) -> Result<usize, Refusal>
     if out.len() < size {
         return Err(Refusal::ShortOutput);
     }
-    let source = Source {
-        table,
-        header: h,
-        count,
-    };
-    source.put_blocks(out);
+    let keeping = Keeping { table, header: h };
+    keeping.put_blocks(out, count);
     Ok(size)
 }
 

@@ -6,11 +6,12 @@ ghost use Rattle.field.specs.Bytes.{overlay};
 ghost use Rattle.block.specs.Block.{block_size, body_size};
 ghost use Rattle.image.specs.Shape.{page_rows, pages_for, blocks_for};
 ghost use Rattle.image.specs.Header.{header_of};
-ghost use Rattle.image.specs.Save.{page_of, body_of, saved_block, image_in, saving};
+ghost use Rattle.image.specs.Save.{Sizes, saving};
 ghost use Rattle.image.specs.Restore.{rows_of, verdict_of};
 ghost use Rattle.image.specs.Moves.{used_in, wanted_by, version_after, along, move_of, known_in, lost_of};
 ghost use Rattle.image.specs.declared.Way.TheVariants.{Forward, Back};
 
+use crate::pages::Source;
 use crate::rows::Pages;
 use crate::{Header, Refusal, Wanted, Way, each_row, facts, judge, pages};
 use row::rules;
@@ -27,27 +28,39 @@ fn used_in(rows: usize, k: usize) -> usize
     left
 }
 
-// An accepted image on its way, with its header, so many blocks and the version that it gets.
+// An accepted image on its way, with its header and the version that it gets.
 #[derive(Clone, Copy)]
 struct Moving<'a> {
     image: &'a [u8],
     header: Header,
-    count: usize,
     way: Way,
     version: u16,
     ghost judged: { verdict_of image.now ≡ Ok tt },
     ghost header_is: { header ≡ header_of image.now },
-    ghost count_is: { count ≡ blocks_for header.board.rows },
+    ghost sizes: { Sizes header (each_row (along way) header.board.rows (rows_of image.now)) },
 }
 
-impl Moving<'_> {
+impl Source for Moving<'_> {
     ghost use Rattle.image.specs.Held.{moved_in};
 
-    // Page k, moved.
-    fn put_page(&self, out: &mut [u8], at: usize, k: usize)
-        requires { (at + body_size ≤ length out.old) × (k < pages_for self.now.header.board.rows) }
-        ensures { out.new ≡ overlay out.old at (page_of self.now.header.board.rows (moved_in self.now) k) }
-    {
+    ghost header = { λ m. m.header };
+
+    ghost rows = { moved_in };
+
+    ghost version = { λ m. m.version };
+
+    ghost sizes = { λ m. m.sizes };
+
+    fn header(&self) -> Header {
+        self.header
+    }
+
+    fn version(&self) -> u16 {
+        self.version
+    }
+
+    // A page of the image, with its rows moved.
+    fn put_page(&self, out: &mut [u8], at: usize, k: usize) {
         field::copy(
             self.image,
             pages::FIRST_PAGE + k * block::BLOCK_SIZE,
@@ -58,37 +71,6 @@ impl Moving<'_> {
         let used = used_in(self.header.board.rows, k);
         let to = at + block::BODY_SIZE;
         each_row::all(&mut out[at..to], self.way, used);
-    }
-
-    fn put_body(&self, out: &mut [u8], at: usize, k: usize)
-        requires { (at + body_size ≤ length out.old) × (k < self.now.count) }
-        ensures { out.new ≡ overlay out.old at (body_of self.now.header (moved_in self.now) k) }
-    {
-        if k == 0 {
-            facts::put(out, at, self.header);
-        } else {
-            self.put_page(out, at, k - 1);
-        }
-    }
-
-    fn put_block(&self, out: &mut [u8], k: usize)
-        requires { (k < self.now.count) × (k * block_size + block_size ≤ length out.old) }
-        ensures { out.new ≡ overlay out.old (k * block_size) (saved_block self.now.version self.now.header (moved_in self.now) k) }
-    {
-        let at = k * block::BLOCK_SIZE;
-        let head = pages::head_for(self.count, self.version, self.header.next, k);
-        block::put_head(out, at, head);
-        self.put_body(out, at + block::HEAD_SIZE, k);
-        block::put_check(out, at);
-    }
-
-    fn put_blocks(&self, out: &mut [u8])
-        requires { self.now.count * block_size ≤ length out.old }
-        ensures { out.new ≡ overlay out.old 0 (image_in self.now.version self.now.header (moved_in self.now)) }
-    {
-        for k in 0..self.count {
-            self.put_block(out, k);
-        }
     }
 }
 
@@ -125,11 +107,10 @@ fn move_image(image: &[u8], out: &mut [u8], way: Way) -> Result<usize, Refusal>
     let moving = Moving {
         image,
         header,
-        count: size / block::BLOCK_SIZE,
         way,
         version: way.version_after(header.board.rows),
     };
-    moving.put_blocks(out);
+    moving.put_blocks(out, size / block::BLOCK_SIZE);
     Ok(size)
 }
 

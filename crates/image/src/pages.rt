@@ -1,10 +1,11 @@
 // The blocks of an image, written and taken: a block after the first is a page of table memory.
-ghost use Rattle.std.specs.Prelude.{◌≡◌, ◌++◌, ◌+◌, ◌-◌, ◌*◌, ◌≤◌, ◌<◌, length, replicate};
+ghost use Rattle.std.specs.Prelude.{ℕ, List, ◌≡◌, ◌++◌, ◌+◌, ◌-◌, ◌*◌, ◌≤◌, ◌<◌, length, replicate};
 ghost use Rattle.field.specs.Bytes.{overlay};
 ghost use Rattle.block.specs.Block.{block_size, body_size};
 ghost use Rattle.table.specs.Memory.{most_rows, table_size};
 ghost use Rattle.image.specs.Shape.{pages_for, blocks_for, most_blocks, old_version, version_fits, head_for, pages, first_page};
-ghost use Rattle.image.specs.Save.{page_of, body_of, saved_block, image_of};
+ghost use Rattle.image.specs.Save.{page_of, body_of, saved_block, image_in, Sizes};
+ghost use Rattle.image.specs.declared.Header.{Header};
 ghost use Rattle.row.specs.Rules.{newest};
 
 use crate::{Header, facts};
@@ -51,23 +52,87 @@ pub fn head_for(count: usize, version: u16, next: u64, k: usize) -> Head
     }
 }
 
-// What is saved: a table, the rows in use with what stands beside them, and so many blocks.
-#[derive(Clone, Copy)]
-pub struct Source<'a> {
-    pub table: &'a [u8],
-    pub header: Header,
-    pub count: usize,
-    pub ghost sized: { length table.now ≡ table_size },
-    pub ghost few: { header.board.rows ≤ most_rows },
-    pub ghost count_is: { count ≡ blocks_for header.board.rows },
+// What gives an image its blocks: a header, a version, and pages of rows.
+pub trait Source {
+    ghost header: { Self → Header };
+
+    ghost rows: { Self → List ℕ };
+
+    ghost version: { Self → ℕ };
+
+    ghost sizes: { (s : Self) → Sizes (header s) (rows s) };
+
+    fn header(&self) -> Header
+        ensures { result ≡ header self.now };
+
+    fn version(&self) -> u16
+        ensures { result ≡ version self.now };
+
+    // Page k.
+    fn put_page(&self, out: &mut [u8], at: usize, k: usize)
+        requires { (at + body_size ≤ length out.old) × (k < pages_for (header self.now).board.rows) }
+        ensures { out.new ≡ overlay out.old at (page_of (header self.now).board.rows (rows self.now) k) };
+
+    // Block 0 has the header, and each after it a page.
+    fn put_body(&self, out: &mut [u8], at: usize, k: usize)
+        requires { (at + body_size ≤ length out.old) × (k < blocks_for (header self.now).board.rows) }
+        ensures { out.new ≡ overlay out.old at (body_of (header self.now) (rows self.now) k) }
+    {
+        if k == 0 {
+            facts::put(out, at, self.header());
+        } else {
+            self.put_page(out, at, k - 1);
+        }
+    }
+
+    fn put_block(&self, out: &mut [u8], count: usize, k: usize)
+        requires { (k * block_size + block_size ≤ length out.old) × (count ≡ blocks_for (header self.now).board.rows) × (k < count) }
+        ensures { out.new ≡ overlay out.old (k * block_size) (saved_block (version self.now) (header self.now) (rows self.now) k) }
+    {
+        let at = k * block::BLOCK_SIZE;
+        let head = head_for(count, self.version(), self.header().next, k);
+        block::put_head(out, at, head);
+        self.put_body(out, at + block::HEAD_SIZE, k);
+        block::put_check(out, at);
+    }
+
+    fn put_blocks(&self, out: &mut [u8], count: usize)
+        requires { (count * block_size ≤ length out.old) × (count ≡ blocks_for (header self.now).board.rows) }
+        ensures { out.new ≡ overlay out.old 0 (image_in (version self.now) (header self.now) (rows self.now)) }
+    {
+        for k in 0..count {
+            self.put_block(out, count, k);
+        }
+    }
 }
 
-impl Source<'_> {
-    // Page k of the table: its rows in use, and zeros.
-    fn put_page(&self, out: &mut [u8], at: usize, k: usize)
-        requires { (at + body_size ≤ length out.old) × (k < pages_for self.now.header.board.rows) }
-        ensures { out.new ≡ overlay out.old at (page_of self.now.header.board.rows self.now.table.now k) }
-    {
+// What is saved: a table, and the rows in use with what stands beside them.
+#[derive(Clone, Copy)]
+pub struct Keeping<'a> {
+    pub table: &'a [u8],
+    pub header: Header,
+    pub ghost sizes: { Sizes header table.now },
+}
+
+impl Source for Keeping<'_> {
+    ghost header = { λ s. s.header };
+
+    ghost rows = { λ s. s.table.now };
+
+    ghost version = { λ s. newest };
+
+    ghost sizes = { λ s. s.sizes };
+
+    fn header(&self) -> Header {
+        self.header
+    }
+
+    fn version(&self) -> u16 {
+        rules::NEWEST
+    }
+
+    // Its rows in use, and zeros.
+    fn put_page(&self, out: &mut [u8], at: usize, k: usize) {
         let from = k * block::BODY_SIZE;
         let left = self.header.board.rows * row::ROW_SIZE - from;
         if left < block::BODY_SIZE {
@@ -75,37 +140,6 @@ impl Source<'_> {
             field::fill(out, at + left, block::BODY_SIZE - left, 0);
         } else {
             field::copy(self.table, from, block::BODY_SIZE, out, at);
-        }
-    }
-
-    fn put_body(&self, out: &mut [u8], at: usize, k: usize)
-        requires { (at + body_size ≤ length out.old) × (k < self.now.count) }
-        ensures { out.new ≡ overlay out.old at (body_of self.now.header self.now.table.now k) }
-    {
-        if k == 0 {
-            facts::put(out, at, self.header);
-        } else {
-            self.put_page(out, at, k - 1);
-        }
-    }
-
-    fn put_block(&self, out: &mut [u8], k: usize)
-        requires { (k * block_size + block_size ≤ length out.old) × (k < self.now.count) }
-        ensures { out.new ≡ overlay out.old (k * block_size) (saved_block newest self.now.header self.now.table.now k) }
-    {
-        let at = k * block::BLOCK_SIZE;
-        let head = head_for(self.count, rules::NEWEST, self.header.next, k);
-        block::put_head(out, at, head);
-        self.put_body(out, at + block::HEAD_SIZE, k);
-        block::put_check(out, at);
-    }
-
-    pub fn put_blocks(&self, out: &mut [u8])
-        requires { self.now.count * block_size ≤ length out.old }
-        ensures { out.new ≡ overlay out.old 0 (image_of self.now.header self.now.table.now) }
-    {
-        for k in 0..self.count {
-            self.put_block(out, k);
         }
     }
 }

@@ -27,8 +27,10 @@ overflow_mul-size c = let l : Fitting c.args.h.board.rows c.args.table.now = sea
 pub returns-then-out-size : goal.returns-then-out-size
 returns-then-out-size c = search save-short depth 14
 
-pub invariant_of-source : goal.invariant_of-source
-invariant_of-source c = let l : Fitting c.args.h.board.rows c.args.table.now = search save-limits in record { sized = l.0; few = l.1; count_is = c.blocks_for-count.ensures }
+pub invariant_of-keeping : goal.invariant_of-keeping
+invariant_of-keeping c =
+    let l : Fitting c.args.h.board.rows c.args.table.now = search save-limits in
+    record { sizes = record { session = search (rules, c); sized = l.0; few = l.1 } }
 
 pub returns : goal.returns
 returns c = search save-whole depth 14

@@ -1,9 +1,10 @@
 -- `image::moves::move_image` meets its contract.
 use mathlib.Core.Path.{◌≡◌}
+use native.Mathlib.Omega.{arith}
 use Rattle.image.specs.Restore.{verdict_of}
 use Rattle.std.specs.Prelude.{Ok, Err}
 use Rattle.std.proofs.lemmas.Result.{err_from_is_err_and}
-use Rattle.image.proofs.Writes.{count-here, move-any, move-long, move-refused, move-short, move-whole}
+use Rattle.image.proofs.Writes.{sizes, count-here, move-any, move-long, move-refused, move-short, move-whole}
 use Rattle.image.proofs.moves.move_image.Goals as goal
 
 pub returns-then-out-size : goal.returns-then-out-size
@@ -16,7 +17,13 @@ pub invariant_of-moving : goal.invariant_of-moving
 invariant_of-moving c =
     let f : c.judge.result ≡ Ok (tt {0}) = c.in_ok-judge.was in
     let a : verdict_of c.args.image.now ≡ Ok (tt {0}) = search move-any depth 14 in
-    record { judged = a; header_is = c.read-header.ensures; count_is = (count-here c.args.image.now a c.read-header.result c.read-header.ensures).0 }
+    record { judged = a; header_is = c.read-header.ensures; sizes = sizes c.args.image.now a c.read-header.result c.read-header.ensures c.args.way }
+
+pub put_blocks-requires : goal.put_blocks-requires
+put_blocks-requires c =
+    let f : c.judge.result ≡ Ok (tt {0}) = c.in_ok-judge.was in
+    let a : verdict_of c.args.image.now ≡ Ok (tt {0}) = search move-any depth 14 in
+    let n = count-here c.args.image.now a c.read-header.result c.read-header.ensures in (omega (arith, n.1), n.0)
 
 pub returns : goal.returns
 returns c = let f : c.judge.result ≡ Ok (tt {0}) = c.in_ok-judge.was in search move-whole depth 14

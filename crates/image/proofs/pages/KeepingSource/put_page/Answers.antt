@@ -1,9 +1,9 @@
--- `image::pages::Source::put_page` meets its contract.
+-- `image::pages::KeepingSource::put_page` meets its contract.
 use native.Mathlib.Omega.{arith}
 use Rattle.image.proofs.Laid.{page-row}
 use Rattle.image.proofs.Puts.{last-put, full_put}
 use borrow.Author.Rules.{rules}
-use Rattle.image.proofs.pages.Source.put_page.Goals as goal
+use Rattle.image.proofs.pages.KeepingSource.put_page.Goals as goal
 
 pub overflow_mul-from : goal.overflow_mul-from
 overflow_mul-from c = let p = page-row c.args.self.now.header.board.rows c.args.k c.requires.1 in omega arith

@@ -1,11 +1,11 @@
--- `image::moves::Moving::put_page` meets its contract.
+-- `image::moves::MovingSource::put_page` meets its contract.
 use mathlib.Core.Path.{refl}
 use Prim.Native.Nat.{◌≤◌}
 use native.Mathlib.Omega.{arith}
 use Rattle.field.specs.Bytes.{part}
 use Rattle.image.proofs.Writes.{rows-are, page-room, used-fits, page-used, lent-long, page-put}
 use borrow.Author.Rules.{rules}
-use Rattle.image.proofs.moves.Moving.put_page.Goals as goal
+use Rattle.image.proofs.moves.MovingSource.put_page.Goals as goal
 
 pub overflow_mul-k : goal.overflow_mul-k
 overflow_mul-k c = let g = page-room c.args.self.now c.args.k c.requires.1 in search rules
