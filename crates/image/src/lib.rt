@@ -51,7 +51,7 @@ pub enum Refusal {
     ShortOutput,
 }
 
-// The versions that a call takes: any, those before version 3, version 3.
+// The versions that a call takes: any, those before version 3, version 3. A value that is handed down, as `verdict_in` names it.
 #[derive(Clone, Copy)]
 pub enum Wanted {
     Any,

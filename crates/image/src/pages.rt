@@ -144,7 +144,7 @@ impl Source for Keeping<'_> {
     }
 }
 
-// The n pages of an image (they are so many, of memory that is longer) to table memory, with zeros past them.
+// The n pages of an image to table memory, with zeros past them. Both memories are longer: n counts pages, and is no length of theirs.
 pub fn take(image: &[u8], table: &mut [u8], n: usize)
     requires { (n * block_size + block_size ≤ length image.now) × (length table.old ≡ table_size) × (n < most_blocks) }
     ensures { table.new ≡ pages image.now first_page block_size n ++ replicate (table_size - n * body_size) 0 }
