@@ -16,13 +16,13 @@ use Rattle.message.specs.Feed.{letter_among}
 use Rattle.message.specs.Letters.{letters, letter_in, end_of_replay_rows, end_of_replay_of}
 use Rattle.message.specs.Message as messages
 use Rattle.message.specs.Message.{accepted, read_of, read_as}
-use Rattle.message.specs.Test.{tested_as, tested, quote_letters, quote_length}
+use Rattle.message.specs.Test.{tested_as, tested, checked, quote_letters, quote_length}
 use Rattle.message.specs.declared.Message.{Message}
 use Rattle.message.specs.declared.Texts.{Texts}
 use Rattle.message.specs.declared.Reading.{Reading}
 use Rattle.message.specs.declared.Refusal as message_refusal
 use Rattle.message.specs.declared.Refusal.TheVariants as message_refusals
-use Rattle.message.proofs.Tested.{test-empty, test-some}
+use Rattle.message.proofs.Tested.{test-empty, test-some, test-number}
 use Rattle.packet.specs.Frame.{held_size}
 use Rattle.packet.specs.Numbering.{number_after}
 use Rattle.packet.specs.Session.{Delivered, done, denied, delivered}
@@ -66,8 +66,8 @@ module _ (handle : List ℕ) (is : is_handle handle ≡ true) where
 
 -- ---- the test
 
-pub tested-by : (bs : List ℕ) (letter : ℕ) {r : ℕ} → (length bs ≡ 0 → ⊥) → letter ≡ get_or bs 0 0 → r ≡ tested (read_as (letter_in letters letter) bs)
-    → r ≡ tested (read_of bs)
+pub tested-by : (bs : List ℕ) (letter : ℕ) {r : Result (Unit {0}) message_refusal.Refusal} → (length bs ≡ 0 → ⊥) → letter ≡ get_or bs 0 0
+    → r ≡ checked (read_as (letter_in letters letter) bs) → r ≡ checked (read_of bs)
 tested-by bs letter some e p = test-some bs some (rw e at p)
 
 read_some : (x : message_refusal.Refusal) → messages.refusal_number x ≡ 0 → ⊥
@@ -86,14 +86,13 @@ passed r = by r.answer refl
     by (Ok m) f g = (m, r.texts, λ i. record { answer = f i; texts = r.texts })
     by (Err x) f g = absurd (read_some x g)
 
-pub tested_low : (bs : List ℕ) {n : ℕ} → n ≡ tested (read_of bs) → n ≤ 12
-tested_low bs e = rw e (by (read_of bs).answer)
-  where
-    by : (a : Result Message Refusal) → tested_as a ≤ 12
-    by (Ok m) = omega arith
-    by (Err message_refusals.UnknownLetter) = omega arith
-    by (Err message_refusals.WrongLength) = omega arith
-    by (Err message_refusals.BadField) = omega arith
+-- what a test answers: the refusal's number, or that the reading is a message
+pub refused-number : (r : Reading) {a : Result (Unit {0}) message_refusal.Refusal} {x : message_refusal.Refusal} {n : ℕ} → a ≡ checked r → a ≡ Err x
+    → n ≡ messages.refusal_number x → (n ≡ tested r) × (n ≡ 0 → ⊥)
+refused-number r {x = x} p q e = (test-number r e (sym q ∙ p), λ z. read_some x (sym e ∙ z))
+
+pub passed-test : (r : Reading) {a : Result (Unit {0}) message_refusal.Refusal} {u : Unit {0}} → a ≡ checked r → a ≡ Ok u → tested r ≡ 0
+passed-test r p q = sym (test-number r refl (sym q ∙ p))
 
 -- ---- what a message does, by its reading
 

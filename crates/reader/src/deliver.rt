@@ -2,7 +2,9 @@
 ghost use Rattle.std.specs.Prelude.{◌≡◌, true, ◌<◌, length, get_or};
 ghost use Rattle.field.specs.Limits.{highest_number};
 ghost use Rattle.message.specs.Message.{read_of, accepted};
-ghost use Rattle.message.specs.Test.{tested, quote_length};
+ghost use Rattle.message.specs.Test.{tested, checked, quote_letters};
+ghost use Rattle.message.specs.Feed.{listed_length};
+ghost use Rattle.message.specs.Letters.{letter_in};
 ghost use Rattle.message.specs.declared.Message.{Message};
 ghost use Rattle.message.specs.declared.Texts.{Texts};
 ghost use Rattle.packet.specs.Session.{delivered};
@@ -16,18 +18,19 @@ ghost use Rattle.reader.specs.Handles.{left};
 ghost use Rattle.reader.specs.Shapes.{Going, Ready, closed_as, applied_as, tried_as};
 
 use crate::told;
+use message::Refusal;
 use packet::numbering;
 use table::wire::Placed;
 
-// The test of some bytes; `size` is the length of a quote with their letter, 0 for any other. A quote's test is small and compiles into this.
-fn test(size: usize, letter: u8, body: &[u8]) -> u32
-    requires { (length body.now ≡ 0 → ⊥) × ((letter ≡ get_or body.now 0 0) × (size ≡ quote_length letter)) }
-    ensures { result ≡ tested (read_of body.now) }
+// The test of some bytes; `size` is the length of a quote with their letter, none for any other. A quote's test is small and compiles into this.
+fn test(size: Option<usize>, letter: u8, body: &[u8]) -> Result<(), Refusal>
+    requires { (length body.now ≡ 0 → ⊥) × ((letter ≡ get_or body.now 0 0) × (size ≡ listed_length (letter_in quote_letters letter))) }
+    ensures { result ≡ checked (read_of body.now) }
 {
-    if size == 0 {
-        return message::test::rarer(letter, body);
+    match size {
+        Some(size) => message::test::quote(letter, size, body),
+        None => message::test::rarer(letter, body),
     }
-    message::test::quote(letter, size, body)
 }
 
 // A message for the row of its id: 0, or the number of the refusal.
@@ -47,18 +50,18 @@ fn place(rows: usize, handle: &mut [u8], table: &mut [u8], index: &mut [u8], bod
 
 // A message that has passed its test.
 fn apply(
-    size: usize,
+    size: Option<usize>,
     rows: usize,
     handle: &mut [u8],
     table: &mut [u8],
     index: &mut [u8],
     body: &[u8],
 ) -> u8
-    requires { (is_handle handle.old ≡ true) × ((rows ≡ (head_of handle.old).board.rows) × ((size ≡ quote_length (get_or body.now 0 0)) × ((tested (read_of body.now) ≡ 0) × LentFitting rows (memories table.old index.old)))) }
+    requires { (is_handle handle.old ≡ true) × ((rows ≡ (head_of handle.old).board.rows) × ((size ≡ listed_length (letter_in quote_letters (get_or body.now 0 0))) × ((tested (read_of body.now) ≡ 0) × LentFitting rows (memories table.old index.old)))) }
     ensures { (m : Message) (t : Texts) → read_of body.now ≡ accepted m t → left result handle.new (memories table.new index.new) ≡ applied_as (effect (head_of handle.old).board m t (memories table.old index.old)) handle.old }
 {
     let letter = body[0];
-    if size == 0 {
+    if size.is_none() {
         if letter == b'S' {
             handle::put_event(field::read::<u8>(body, 11), handle);
             return 0;
@@ -81,9 +84,8 @@ fn tried(rows: usize, handle: &mut [u8], table: &mut [u8], index: &mut [u8], bod
     }
     let letter = body[0];
     let size = message::test::quote_length(letter);
-    let bad = test(size, letter, body);
-    if bad != 0 {
-        return bad as u8;
+    if let Err(r) = test(size, letter, body) {
+        return u8::from(r);
     }
     apply(size, rows, handle, table, index, body)
 }
