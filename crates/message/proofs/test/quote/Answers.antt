@@ -18,9 +18,6 @@ read-requires c = search (room-head, rules)
 pub returns-then-not-is_condition : goal.returns-then-not-is_condition
 returns-then-not-is_condition c = search (quote-condition, rules)
 
-pub prices_keep-requires : goal.prices_keep-requires
-prices_keep-requires c = search (quote-sized, rules)
-
 pub returns-then-not-prices_keep : goal.returns-then-not-prices_keep
 returns-then-not-prices_keep c = search (quote-prices, rules)
 

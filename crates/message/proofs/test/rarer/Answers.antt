@@ -9,9 +9,6 @@ returns-in_default c = search (rare-unknown, rules)
 pub returns-then-whole-size : goal.returns-then-whole-size
 returns-then-whole-size c = search (rare-long, rules)
 
-pub fields_keep-requires : goal.fields_keep-requires
-fields_keep-requires c = search (rare-sized, rules)
-
 pub returns-then-fields_keep : goal.returns-then-fields_keep
 returns-then-fields_keep c = search (rare-kept, rules)
 
