@@ -157,6 +157,7 @@ fn end_of_replay(bytes: &[u8; RECORD_SIZE]) -> Held
 pub fn message(letter: u8, bytes: &[u8; RECORD_SIZE]) -> Held
     ensures { result ≡ said_by (letter_in record_letters letter) bytes.now }
 {
+    // A match on the letter: a table of functions would stand beside the same eleven lines.
     match letter {
         b'S' => system_event(bytes),
         b'm' => directory(bytes),
