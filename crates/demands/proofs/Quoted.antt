@@ -6,10 +6,9 @@ use mathlib.Core.List.{List}
 use Prim.Native.Nat.{ℕ}
 use native.Mathlib.Omega.{arith}
 use Rattle.field.specs.Bytes.{Bytes}
-use Rattle.message.specs.Letters.{prices_of, NoZero}
+use Rattle.message.specs.Letters.{prices_of, NoZero, LongNumbers}
 use Rattle.message.specs.Message as messages
 use Rattle.message.specs.Message.{read_of}
-use Rattle.message.specs.declared.LongNumbers.{LongNumbers}
 use Rattle.message.specs.declared.Message.{Message}
 use Rattle.std.specs.Prelude.{None}
 use Rattle.message.specs.declared.Side.{Side}

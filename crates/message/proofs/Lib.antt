@@ -6,6 +6,7 @@ pub mod Rounds
 pub mod Verdicts
 pub mod Typed
 pub mod Ways
+pub mod Widths
 pub mod NoZero
 pub mod Tested
 pub mod Puts

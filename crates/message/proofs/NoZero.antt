@@ -8,7 +8,7 @@ use Rattle.field.specs.Limits.{time_in_range, price_in_range}
 use Rattle.field.specs.Bytes.{Bytes}
 use Rattle.field.proofs.Bools.{both_left}
 use Rattle.message.specs.Layout.{amount, is_price, priced, price, holds, keeps_all}
-use Rattle.message.specs.Letters.{listed, anything, conditions, long_price, prices_of, NoZero}
+use Rattle.message.specs.Letters.{listed, anything, conditions, prices_of, NoZero}
 use Rattle.message.specs.Message.{accepted, read_of, keeps, outcome, write_of}
 use Rattle.message.specs.declared.Message.{Message}
 use Rattle.message.specs.declared.Message.TheVariants as message
@@ -41,11 +41,11 @@ kept-no-zero (message.SystemEvent m) t k = tt
 kept-no-zero (message.Directory m) t k = tt
 kept-no-zero (message.TradingAction m) t k = tt
 kept-no-zero (message.ShortQuote m) t k =
-    two (time_in_range m.stamp.time) (listed conditions m.condition) anything (long_price m.bid.price) (long_price m.ask.price) k
+    two (time_in_range m.stamp.time) (listed conditions m.condition) anything m.bid.price m.ask.price k
 kept-no-zero (message.LongQuote m) t k =
     two (time_in_range m.stamp.time) (listed conditions m.condition) price_in_range m.bid.price m.ask.price k
 kept-no-zero (message.ShortSide m) t k =
-    one (time_in_range m.stamp.time) (listed conditions m.condition) anything (long_price m.numbers.price) k
+    one (time_in_range m.stamp.time) (listed conditions m.condition) anything m.numbers.price k
 kept-no-zero (message.LongSide m) t k =
     one (time_in_range m.stamp.time) (listed conditions m.condition) price_in_range m.numbers.price k
 kept-no-zero (message.EndOfReplay m) t k = tt

@@ -1,8 +1,9 @@
 -- The writers: a run of writes makes the bytes of a record.
 -- Assumes nothing.
 use mathlib.Core.Path.{◌≡◌, refl, sym, ap, ◌∙◌}
+use mathlib.Core.Bool.{Bool}
 use mathlib.Core.List.{List, [], ◌∷◌, ◌++◌, append_assoc, append-nil}
-use Prim.Native.Nat.{ℕ, ◌+◌, ◌^◌, ◌≤◌, ◌<◌}
+use Prim.Native.Nat.{ℕ, ◌+◌, ◌*◌, ◌^◌, ◌≤◌, ◌<◌}
 use native.Mathlib.Nat.{div-one, mod-eq_of_lt}
 use native.Mathlib.Omega.{arith}
 use lib.ListN.{length, length-append}
@@ -12,20 +13,17 @@ use borrow.Rule.Slice.PartMut.{put_mid}
 use Rattle.field.proofs.Parts.{part_length, part-whole, part-back, overlay-length, overlay-whole}
 use Rattle.field.proofs.Numbers.{digits-length, Lent, lent-bytes}
 use Rattle.field.proofs.Decimals.{before-length, count_most}
-use Rattle.field.proofs.Writes.{piece, run-joined, carried-run}
+use Rattle.field.proofs.Writes.{piece, run-joined}
 use Rattle.message.specs.Layout.{amount, bytes_for, values}
-use Rattle.message.specs.Letters.{stamp_rows, stamp_fields, system_event_rows, system_event_fields, instrument_rows, instrument_fields, directory_rows, directory_fields, quote_rows, quote_fields, long_price, short_numbers_rows, short_numbers_fields, long_numbers_rows, long_numbers_fields, long_numbers_of, short_quote_rows, short_quote_fields, long_quote_rows, long_quote_fields, short_side_code, short_side_rows, short_side_fields, long_side_code, long_side_rows, long_side_fields, end_of_replay_rows, end_of_replay_fields, entry_size, system_event_letter, directory_letter, short_quote_letter, long_quote_letter, short_side_letter, long_side_letter, end_of_replay_letter}
+use Rattle.message.specs.Letters.{stamp_rows, stamp_fields, system_event_rows, system_event_fields, instrument_rows, instrument_fields, directory_rows, directory_fields, quote_rows, quote_fields, numbers_rows, numbers_fields, numbers_of, long_numbers_rows, whole_quote_rows, whole_quote_fields, one_side_rows, one_side_fields, end_of_replay_rows, end_of_replay_fields, entry_size, system_event_letter, directory_letter, end_of_replay_letter}
 use Rattle.message.proofs.Layouts.{fields-run}
 use Rattle.message.specs.declared.Stamp.{Stamp}
-use Rattle.message.specs.declared.ShortNumbers.{ShortNumbers}
-use Rattle.message.specs.declared.LongNumbers.{LongNumbers}
+use Rattle.message.specs.declared.SideNumbers.{SideNumbers}
 use Rattle.message.specs.declared.SystemEvent.{SystemEvent}
 use Rattle.message.specs.declared.Instrument.{Instrument}
 use Rattle.message.specs.declared.Directory.{Directory}
-use Rattle.message.specs.declared.ShortQuote.{ShortQuote}
-use Rattle.message.specs.declared.LongQuote.{LongQuote}
-use Rattle.message.specs.declared.ShortSide.{ShortSide}
-use Rattle.message.specs.declared.LongSide.{LongSide}
+use Rattle.message.specs.declared.Quote.{Quote}
+use Rattle.message.specs.declared.OneSide.{OneSide}
 use Rattle.message.specs.declared.EndOfReplay.{EndOfReplay}
 use Rattle.message.specs.declared.Texts.{Texts}
 
@@ -50,37 +48,42 @@ head-put xs l s id mark {us} {vs} {zs} h e f g =
     e (vs, f, (zs, g, refl))
 
 -- five numbers of one width
-five-put : (w : ℕ) (xs : List ℕ) (at a b c d e : ℕ) {us vs ws ys zs : List ℕ} → at + (w + (w + (w + (w + (w + 0))))) ≤ length xs
-    → us ≡ overlay xs at (bytes_be w a) → vs ≡ overlay us (at + w) (bytes_be w b) → ws ≡ overlay vs (at + (w + w)) (bytes_be w c)
-    → ys ≡ overlay ws (at + (w + w + w)) (bytes_be w d) → zs ≡ overlay ys (at + (w + w + w + w)) (bytes_be w e)
+five-put : (w : ℕ) (xs : List ℕ) (at a b c d e : ℕ) {us vs ws ys zs : List ℕ} → at + 5 * w ≤ length xs
+    → us ≡ overlay xs at (bytes_be w a) → vs ≡ overlay us (at + w) (bytes_be w b) → ws ≡ overlay vs (at + 2 * w) (bytes_be w c)
+    → ys ≡ overlay ws (at + 3 * w) (bytes_be w d) → zs ≡ overlay ys (at + 4 * w) (bytes_be w e)
     → zs ≡ overlay xs at (bytes_be w a ++ (bytes_be w b ++ (bytes_be w c ++ (bytes_be w d ++ (bytes_be w e ++ [])))))
 five-put w xs at a b c d e {us} {vs} {ws} {ys} {zs} h p q r s u =
     let l : (v : ℕ) → length (bytes_be w v) ≡ w = digits-length 256 w in
+    let two : at + 2 * w ≡ at + (w + w) = omega arith in
+    let three : at + 3 * w ≡ at + (w + w + w) = omega arith in
+    let four : at + 4 * w ≡ at + (w + w + w + w) = omega arith in
     run-joined xs at (piece w (bytes_be w a)) (piece w (bytes_be w b) ∷ piece w (bytes_be w c) ∷ piece w (bytes_be w d) ∷ piece w (bytes_be w e) ∷ [])
-    (l a, (l b, (l c, (l d, (l e, tt))))) h p (vs, q, (ws, r, (ys, s, (zs, u, refl))))
+    (l a, (l b, (l c, (l d, (l e, tt))))) (omega arith) p (vs, q, (ws, rw two at r, (ys, rw three at s, (zs, rw four at u, refl))))
 
-pub short-numbers-put : (xs : List ℕ) (at : ℕ) (n : ShortNumbers) {p : ℕ} {us vs ws ys zs : List ℕ} → p ≡ amount (long_price n.price) → at + 10 ≤ length xs
-    → us ≡ overlay xs at (bytes_be 2 n.market) → vs ≡ overlay us (at + 2) (bytes_be 2 p) → ws ≡ overlay vs (at + 4) (bytes_be 2 n.size)
-    → ys ≡ overlay ws (at + 6) (bytes_be 2 n.customer) → zs ≡ overlay ys (at + 8) (bytes_be 2 n.professional)
-    → zs ≡ overlay xs at (bytes_for (short_numbers_rows at) (short_numbers_fields n))
+pub numbers-put : (w : ℕ) (keeps : ℕ → Bool) (xs : List ℕ) (at : ℕ) (n : SideNumbers ℕ) {k p : ℕ} {us vs ws ys zs : List ℕ} → k ≡ w → p ≡ amount n.price
+    → at + 5 * w ≤ length xs → us ≡ overlay xs at (bytes_be w n.market) → vs ≡ overlay us (at + k) (bytes_be w p)
+    → ws ≡ overlay vs (at + 2 * k) (bytes_be w n.size) → ys ≡ overlay ws (at + 3 * k) (bytes_be w n.customer)
+    → zs ≡ overlay ys (at + 4 * k) (bytes_be w n.professional)
+    → zs ≡ overlay xs at (bytes_for (numbers_rows w keeps at) (numbers_fields n))
 unfolding bytes_for
-short-numbers-put xs at n {p} is h = rw (← is) (five-put 2 xs at n.market p n.size n.customer n.professional h)
+numbers-put w keeps xs at n {p = p} {us = us} {vs = vs} {ws = ws} {ys = ys} wide is h q r s u v =
+    rw (← is)
+    (five-put w xs at n.market p n.size n.customer n.professional h q (r ∙ ap (λ (j : ℕ). overlay us (at + j) (bytes_be w p)) wide)
+    (s ∙ ap (λ (j : ℕ). overlay vs (at + 2 * j) (bytes_be w n.size)) wide) (u ∙ ap (λ (j : ℕ). overlay ws (at + 3 * j) (bytes_be w n.customer)) wide)
+    (v ∙ ap (λ (j : ℕ). overlay ys (at + 4 * j) (bytes_be w n.professional)) wide))
 
-pub long-numbers-put : (xs : List ℕ) (at : ℕ) (n : LongNumbers) {p : ℕ} {us vs ws ys zs : List ℕ} → p ≡ amount n.price → at + 20 ≤ length xs
-    → us ≡ overlay xs at (bytes_be 4 n.market) → vs ≡ overlay us (at + 4) (bytes_be 4 p) → ws ≡ overlay vs (at + 8) (bytes_be 4 n.size)
-    → ys ≡ overlay ws (at + 12) (bytes_be 4 n.customer) → zs ≡ overlay ys (at + 16) (bytes_be 4 n.professional)
-    → zs ≡ overlay xs at (bytes_for (long_numbers_rows at) (long_numbers_fields n))
+numbers-length : (w : ℕ) (keeps : ℕ → Bool) (at : ℕ) (n : SideNumbers ℕ) → length (bytes_for (numbers_rows w keeps at) (numbers_fields n)) ≡ 5 * w
 unfolding bytes_for
-long-numbers-put xs at n {p} is h = rw (← is) (five-put 4 xs at n.market p n.size n.customer n.professional h)
+numbers-length w keeps at n =
+    let l : (v : ℕ) → length (bytes_be w v) ≡ w = digits-length 256 w in
+    simp (length-append, l) (omega arith)
 
 -- carried from other bytes, with no number taken
-pub long-carried : (xs bs : List ℕ) (at from : ℕ) {us vs zs : List ℕ} → Lent bs → from + 20 ≤ length bs → at + 20 ≤ length xs
-    → us ≡ overlay xs at (part bs from 8) → vs ≡ overlay us (at + 8) (part bs (from + 8) 8) → zs ≡ overlay vs (at + 16) (part bs (from + 16) 4)
-    → zs ≡ overlay xs at (bytes_for (long_numbers_rows at) (long_numbers_fields (long_numbers_of (values (long_numbers_rows from) bs))))
+pub long-carried : (xs bs : List ℕ) (at from : ℕ) {zs : List ℕ} → Lent bs → from + 20 ≤ length bs → zs ≡ overlay xs at (part bs from 20)
+    → zs ≡ overlay xs at (bytes_for (long_numbers_rows at) (numbers_fields (numbers_of (values (long_numbers_rows from) bs))))
 unfolding values bytes_for
-long-carried xs bs at from {us} {vs} {zs} k h g e f i =
-    carried-run bs from xs at 8 (8 ∷ 4 ∷ []) h g e (vs, f, (zs, i, refl))
-    ∙ ap (overlay xs at) (sym (fields-run (long_numbers_rows from) bs from (refl, refl, (refl, refl, (omega arith, refl, (omega arith, refl, (omega arith, refl, tt))))) (lent-bytes bs k) h))
+long-carried xs bs at from k h e =
+    e ∙ ap (overlay xs at) (sym (fields-run (long_numbers_rows from) bs from (refl, refl, (refl, refl, (omega arith, refl, (omega arith, refl, (omega arith, refl, tt))))) (lent-bytes bs k) h))
 
 -- ---- an instrument
 
@@ -166,49 +169,31 @@ directory-put xs m t {us} {vs} l k j h e f =
     (put_mid 11 entry_size us vs, part-back 11 directory_letter.size us vs (omega arith) (omega arith) (ap length v ∙ n) ∙ ap (overlay us 11) v, refl)
     ∙ ap (overlay xs 0) (ap (λ (r : List ℕ). s ++ r) (append-nil i))
 
-pub short-quote-put : (xs : List ℕ) (m : ShortQuote) {us vs zs : List ℕ} → short_quote_letter.size ≤ length xs
-    → us ≡ overlay xs 0 (113 ∷ bytes_for quote_rows (quote_fields m.stamp m.id m.condition))
-    → vs ≡ overlay us 16 (bytes_for (short_numbers_rows 16) (short_numbers_fields m.bid))
-    → zs ≡ overlay vs 26 (bytes_for (short_numbers_rows 26) (short_numbers_fields m.ask))
-    → zs ≡ overlay xs 0 (113 ∷ bytes_for short_quote_rows (short_quote_fields m))
-unfolding digits bytes_for
-short-quote-put xs m {us} {vs} {zs} h e f g =
-    run-joined xs 0 (piece 16 (113 ∷ bytes_for quote_rows (quote_fields m.stamp m.id m.condition)))
-    (piece 10 (bytes_for (short_numbers_rows 16) (short_numbers_fields m.bid)) ∷ piece 10 (bytes_for (short_numbers_rows 26) (short_numbers_fields m.ask)) ∷ [])
-    (refl, (refl, (refl, tt))) h e (vs, f, (zs, g, refl))
+module _ (w : ℕ) (keeps : ℕ → Bool) (xs : List ℕ) where
+  -- both sides of a quote, under its letter c
+  pub quote-put : (m : Quote ℕ) (c : ℕ) {k : ℕ} {us vs zs : List ℕ} → k ≡ w → 16 + 10 * w ≤ length xs
+      → us ≡ overlay xs 0 (c ∷ bytes_for quote_rows (quote_fields m.stamp m.id m.condition))
+      → vs ≡ overlay us 16 (bytes_for (numbers_rows w keeps 16) (numbers_fields m.bid))
+      → zs ≡ overlay vs (16 + 5 * k) (bytes_for (numbers_rows w keeps (16 + 5 * k)) (numbers_fields m.ask))
+      → zs ≡ overlay xs 0 (c ∷ bytes_for (whole_quote_rows w keeps) (whole_quote_fields m))
+  unfolding digits bytes_for
+  quote-put m c {k} {us} {vs} {zs} wide h e f g =
+      run-joined xs 0 (piece 16 (c ∷ bytes_for quote_rows (quote_fields m.stamp m.id m.condition)))
+      (piece (5 * w) (bytes_for (numbers_rows w keeps 16) (numbers_fields m.bid)) ∷ piece (5 * w) (bytes_for (numbers_rows w keeps (16 + 5 * w)) (numbers_fields m.ask)) ∷ [])
+      (refl, (numbers-length w keeps 16 m.bid, (numbers-length w keeps (16 + 5 * w) m.ask, tt))) (omega arith) e
+      (vs, f, (zs, rw wide at g ∙ ap (λ (j : ℕ). overlay vs j (bytes_for (numbers_rows w keeps (16 + 5 * w)) (numbers_fields m.ask))) (omega arith), refl))
+      ∙ ap (overlay xs 0) (simp (append_assoc, append-nil))
 
-pub long-quote-put : (xs : List ℕ) (m : LongQuote) {us vs zs : List ℕ} → long_quote_letter.size ≤ length xs
-    → us ≡ overlay xs 0 (81 ∷ bytes_for quote_rows (quote_fields m.stamp m.id m.condition))
-    → vs ≡ overlay us 16 (bytes_for (long_numbers_rows 16) (long_numbers_fields m.bid))
-    → zs ≡ overlay vs 36 (bytes_for (long_numbers_rows 36) (long_numbers_fields m.ask))
-    → zs ≡ overlay xs 0 (81 ∷ bytes_for long_quote_rows (long_quote_fields m))
-unfolding digits bytes_for
-long-quote-put xs m {us} {vs} {zs} h e f g =
-    run-joined xs 0 (piece 16 (81 ∷ bytes_for quote_rows (quote_fields m.stamp m.id m.condition)))
-    (piece 20 (bytes_for (long_numbers_rows 16) (long_numbers_fields m.bid)) ∷ piece 20 (bytes_for (long_numbers_rows 36) (long_numbers_fields m.ask)) ∷ [])
-    (refl, (refl, (refl, tt))) h e (vs, f, (zs, g, refl))
-
-pub short-side-put : (xs : List ℕ) (m : ShortSide) (c : ℕ) {us zs : List ℕ} → (short_side_letter m.side).size ≤ length xs
-    → c ≡ short_side_code m.side
-    → us ≡ overlay xs 0 (c ∷ bytes_for quote_rows (quote_fields m.stamp m.id m.condition))
-    → zs ≡ overlay us 16 (bytes_for (short_numbers_rows 16) (short_numbers_fields m.numbers))
-    → zs ≡ overlay xs 0 (short_side_code m.side ∷ bytes_for short_side_rows (short_side_fields m))
-unfolding digits bytes_for
-short-side-put xs m c {us} {zs} h i e f =
-    run-joined xs 0 (piece 16 (c ∷ bytes_for quote_rows (quote_fields m.stamp m.id m.condition)))
-    (piece 10 (bytes_for (short_numbers_rows 16) (short_numbers_fields m.numbers)) ∷ []) (refl, (refl, tt)) h e (zs, f, refl)
-    ∙ ap (λ (k : ℕ). overlay xs 0 (k ∷ bytes_for short_side_rows (short_side_fields m))) i
-
-pub long-side-put : (xs : List ℕ) (m : LongSide) (c : ℕ) {us zs : List ℕ} → (long_side_letter m.side).size ≤ length xs
-    → c ≡ long_side_code m.side
-    → us ≡ overlay xs 0 (c ∷ bytes_for quote_rows (quote_fields m.stamp m.id m.condition))
-    → zs ≡ overlay us 16 (bytes_for (long_numbers_rows 16) (long_numbers_fields m.numbers))
-    → zs ≡ overlay xs 0 (long_side_code m.side ∷ bytes_for long_side_rows (long_side_fields m))
-unfolding digits bytes_for
-long-side-put xs m c {us} {zs} h i e f =
-    run-joined xs 0 (piece 16 (c ∷ bytes_for quote_rows (quote_fields m.stamp m.id m.condition)))
-    (piece 20 (bytes_for (long_numbers_rows 16) (long_numbers_fields m.numbers)) ∷ []) (refl, (refl, tt)) h e (zs, f, refl)
-    ∙ ap (λ (k : ℕ). overlay xs 0 (k ∷ bytes_for long_side_rows (long_side_fields m))) i
+  -- one side
+  pub side-put : (m : OneSide ℕ) (c : ℕ) {us zs : List ℕ} → 16 + 5 * w ≤ length xs
+      → us ≡ overlay xs 0 (c ∷ bytes_for quote_rows (quote_fields m.stamp m.id m.condition))
+      → zs ≡ overlay us 16 (bytes_for (numbers_rows w keeps 16) (numbers_fields m.numbers))
+      → zs ≡ overlay xs 0 (c ∷ bytes_for (one_side_rows w keeps) (one_side_fields m))
+  unfolding digits bytes_for
+  side-put m c {us} {zs} h e f =
+      run-joined xs 0 (piece 16 (c ∷ bytes_for quote_rows (quote_fields m.stamp m.id m.condition)))
+      (piece (5 * w) (bytes_for (numbers_rows w keeps 16) (numbers_fields m.numbers)) ∷ []) (refl, (numbers-length w keeps 16 m.numbers, tt)) (omega arith) e (zs, f, refl)
+      ∙ ap (overlay xs 0) (simp (append_assoc, append-nil))
 
 -- a number of eight bytes has at most twenty digits
 pub twenty : (n : ℕ) → n < 2 ^ 64 → digit_count n ≤ 20

@@ -11,7 +11,7 @@ use lib.ListN.{length, drop, get_or, drop_of_length-le}
 use lib.Seq.{drop-cons}
 use Rattle.message.specs.Layout.{values, tiled}
 use Rattle.message.specs.Feed.{Letter, letter_among, Sized}
-use Rattle.message.specs.Letters.{Content, letters, letter_in, letter_for, unlisted, listed, fields_of, short_quote_rows, short_quote_of, short_quote_fields, short_side_rows, short_side_of, short_side_fields, short_side_code, short_side_letter, long_side_code, long_side_letter}
+use Rattle.message.specs.Letters.{Content, letters, letter_in, letter_for, unlisted, listed, fields_of, short_side_code, short_side_letter, long_side_code, long_side_letter}
 use Rattle.message.specs.Message.{read_fields, texts_with}
 use Rattle.message.specs.declared.Message.{Message}
 use Rattle.message.specs.declared.Message.TheVariants as message
@@ -19,7 +19,6 @@ use Rattle.message.specs.declared.Side.{Side}
 use Rattle.message.specs.declared.Side.TheVariants.{Bid, Ask}
 use Rattle.message.specs.declared.Texts.{Texts}
 use Rattle.message.specs.declared.Reading.{Reading}
-use Rattle.message.proofs.Amounts.{long-back, short_back}
 use Rattle.message.proofs.Feeds.{found, all_tiled}
 
 infixr 5 ◌also◌
@@ -76,15 +75,6 @@ pub letters-tiled : all_tiled letters ≡ true
 unfolding all_tiled letters tiled
 letters-tiled = refl
 
--- the prices of a short form go both ways too
-short-quote-again : (bs : List ℕ) → short_quote_fields (short_quote_of (values short_quote_rows bs)) ≡ values short_quote_rows bs
-unfolding values
-short-quote-again bs = simp long-back
-
-short-side-again : (s : Side) (bs : List ℕ) → short_side_fields (short_side_of s (values short_side_rows bs)) ≡ values short_side_rows bs
-unfolding values
-short-side-again s bs = simp long-back
-
 -- a letter makes a message of its own, whose fields are those that it was made of
 pub record Makes (l : Letter Content) (bs : List ℕ) : Type 0 where
   pub own : letter_for (l.makes (values l.rows bs)).0 ≡ l
@@ -97,10 +87,10 @@ found-makes c bs =
     ((λ e h. record { own = refl; fields = refl })
     also (λ e h. record { own = refl; fields = refl })
     also (λ e h. record { own = refl; fields = refl })
-    also (λ e h. record { own = refl; fields = short-quote-again bs })
     also (λ e h. record { own = refl; fields = refl })
-    also (λ e h. record { own = refl; fields = short-side-again Bid bs })
-    also (λ e h. record { own = refl; fields = short-side-again Ask bs })
+    also (λ e h. record { own = refl; fields = refl })
+    also (λ e h. record { own = refl; fields = refl })
+    also (λ e h. record { own = refl; fields = refl })
     also (λ e h. record { own = refl; fields = refl })
     also (λ e h. record { own = refl; fields = refl })
     also (λ e h. record { own = refl; fields = refl })
@@ -122,10 +112,8 @@ unfolding letters letter_among
 is-listed-letter (message.SystemEvent m) t = record { own = refl; some = λ e. omega arith; made = refl }
 is-listed-letter (message.Directory m) t = record { own = refl; some = λ e. omega arith; made = refl }
 is-listed-letter (message.TradingAction m) t = record { own = refl; some = λ e. omega arith; made = refl }
-is-listed-letter (message.ShortQuote m) t =
-    record { own = refl; some = λ e. omega arith; made = rw (short_back m.bid.price, short_back m.ask.price) }
+is-listed-letter (message.ShortQuote m) t = record { own = refl; some = λ e. omega arith; made = refl }
 is-listed-letter (message.LongQuote m) t = record { own = refl; some = λ e. omega arith; made = refl }
-is-listed-letter (message.ShortSide m) t =
-    record { own = (side-listed m.side).0; some = λ e. omega arith; made = rw (short_back m.numbers.price) }
+is-listed-letter (message.ShortSide m) t = record { own = (side-listed m.side).0; some = λ e. omega arith; made = refl }
 is-listed-letter (message.LongSide m) t = record { own = (side-listed m.side).1; some = λ e. omega arith; made = refl }
 is-listed-letter (message.EndOfReplay m) t = record { own = refl; some = λ e. omega arith; made = refl }

@@ -10,9 +10,13 @@ use Rattle.std.specs.Prelude.{Some, None}
 
 -- ---- a price is a number above zero, or none (W-206)
 
--- the price that a number in bytes says: 0 says none
+-- the price that x says, where f is the number that x is: 0 says none
+abbrev pub price_by : {T : Type 0} → (T → ℕ) → T → Option T
+price_by f x = cond (eqb (f x) 0) None (Some x)
+
+-- the price that a number in bytes says
 unfoldable pub price_from : ℕ → Option ℕ
-price_from n = cond (eqb n 0) None (Some n)
+price_from n = price_by (λ x. x) n
 
 -- the number that says a price
 abbrev pub amount : Option ℕ → ℕ

@@ -1,7 +1,7 @@
 -- The ten letters: the layout of each, row for row as the feed publishes it, and the record that its fields make.
 -- Byte 0 is the letter; the rows are the fields after it.
 -- Assumes nothing.
-use Rattle.std.specs.Prelude.{ℕ, ◌+◌, ◌≡◌, Bool, true, false, cond, List, [], ◌∷◌, ◌++◌, eqb, drop, replicate}
+use Rattle.std.specs.Prelude.{ℕ, ◌+◌, ◌*◌, ◌≡◌, Bool, true, false, cond, List, [], ◌∷◌, ◌++◌, eqb, drop, replicate}
 use Rattle.field.specs.Limits.{time_in_range, price_in_range}
 use Rattle.field.specs.Text.{within}
 use Rattle.message.specs.Layout.{Value, num, raw, priced, number_at, bytes_at, price_at, binary, decimal, text, bytes, price, Row, row, from}
@@ -9,18 +9,14 @@ use Rattle.message.specs.Feed.{Letter, letter_among}
 use Rattle.message.specs.declared.Stamp.{Stamp}
 use Rattle.message.specs.declared.Side.{Side}
 use Rattle.message.specs.declared.Side.TheVariants.{Bid, Ask}
-use Rattle.std.specs.Prelude.{Option}
-use Rattle.std.specs.declared.option.Option.TheVariants as long
-use Rattle.message.specs.declared.ShortNumbers.{ShortNumbers}
-use Rattle.message.specs.declared.LongNumbers.{LongNumbers}
+use Rattle.std.specs.Prelude.{Option, Some, option_map}
+use Rattle.message.specs.declared.SideNumbers.{SideNumbers}
+use Rattle.message.specs.declared.Quote.{Quote}
+use Rattle.message.specs.declared.OneSide.{OneSide}
 use Rattle.message.specs.declared.SystemEvent.{SystemEvent}
 use Rattle.message.specs.declared.Instrument.{Instrument}
 use Rattle.message.specs.declared.Directory.{Directory}
 use Rattle.message.specs.declared.TradingAction.{TradingAction}
-use Rattle.message.specs.declared.ShortQuote.{ShortQuote}
-use Rattle.message.specs.declared.LongQuote.{LongQuote}
-use Rattle.message.specs.declared.ShortSide.{ShortSide}
-use Rattle.message.specs.declared.LongSide.{LongSide}
 use Rattle.message.specs.declared.EndOfReplay.{EndOfReplay}
 use Rattle.message.specs.declared.Message.{Message}
 use Rattle.message.specs.declared.Message.TheVariants as message
@@ -108,40 +104,46 @@ trading_action_rows = stamp_rows ++ (row 11 4 (binary anything) ∷ row 15 1 (bi
 abbrev pub quote_rows : List Row
 quote_rows = stamp_rows ++ (row 11 4 (binary anything) ∷ row 15 1 (binary (listed conditions)) ∷ [])
 
--- a side: market order size, price, size, customer, professional; prices of two bytes are pennies, and 0 says that there is none
-abbrev pub short_numbers_rows : ℕ → List Row
-short_numbers_rows at =
-    row at 2 (binary anything)
-    ∷ row (at + 2) 2 (price anything)
-    ∷ row (at + 4) 2 (binary anything)
-    ∷ row (at + 6) 2 (binary anything)
-    ∷ row (at + 8) 2 (binary anything)
+-- a side in numbers of w bytes each: market order size, price, size, customer, professional; a price of 0 says that there is none
+abbrev pub numbers_rows : ℕ → (ℕ → Bool) → ℕ → List Row
+numbers_rows w keeps at =
+    row at w (binary anything)
+    ∷ row (at + w) w (price keeps)
+    ∷ row (at + 2 * w) w (binary anything)
+    ∷ row (at + 3 * w) w (binary anything)
+    ∷ row (at + 4 * w) w (binary anything)
     ∷ []
 
+-- bid, ask
+abbrev pub whole_quote_rows : ℕ → (ℕ → Bool) → List Row
+whole_quote_rows w keeps = quote_rows ++ (numbers_rows w keeps 16 ++ numbers_rows w keeps (16 + 5 * w))
+
+-- one side
+abbrev pub one_side_rows : ℕ → (ℕ → Bool) → List Row
+one_side_rows w keeps = quote_rows ++ numbers_rows w keeps 16
+
+-- in two bytes a price is pennies, and in four ten-thousandths of a dollar
+abbrev pub short_numbers_rows : ℕ → List Row
+short_numbers_rows = numbers_rows 2 anything
+
 abbrev pub long_numbers_rows : ℕ → List Row
-long_numbers_rows at =
-    row at 4 (binary anything)
-    ∷ row (at + 4) 4 (price price_in_range)
-    ∷ row (at + 8) 4 (binary anything)
-    ∷ row (at + 12) 4 (binary anything)
-    ∷ row (at + 16) 4 (binary anything)
-    ∷ []
+long_numbers_rows = numbers_rows 4 price_in_range
 
 -- q: bid, ask
 abbrev pub short_quote_rows : List Row
-short_quote_rows = quote_rows ++ (short_numbers_rows 16 ++ short_numbers_rows 26)
+short_quote_rows = whole_quote_rows 2 anything
 
 -- Q: bid, ask
 abbrev pub long_quote_rows : List Row
-long_quote_rows = quote_rows ++ (long_numbers_rows 16 ++ long_numbers_rows 36)
+long_quote_rows = whole_quote_rows 4 price_in_range
 
 -- b a: one side
 abbrev pub short_side_rows : List Row
-short_side_rows = quote_rows ++ short_numbers_rows 16
+short_side_rows = one_side_rows 2 anything
 
 -- B A: one side
 abbrev pub long_side_rows : List Row
-long_side_rows = quote_rows ++ long_numbers_rows 16
+long_side_rows = one_side_rows 4 price_in_range
 
 -- M: number
 abbrev pub end_of_replay_rows : List Row
@@ -206,30 +208,27 @@ trading_action_of vs = record { stamp = stamp_of vs; id = number_at vs 2; state 
 abbrev pub trading_action_fields : TradingAction → List Value
 trading_action_fields m = stamp_fields m.stamp ++ (num m.id ∷ num m.state ∷ [])
 
--- a price as a short side holds it, and back
-abbrev pub short_price : Option ℕ → Option ℕ
-short_price (long.Some n) = long.Some n
-short_price long.None = long.None
+-- a side, a quote and a quote of one side, in numbers of two bytes and of four: as numbers they are the same records, and the messages that hold them differ
+abbrev pub ShortNumbers : Type 0
+ShortNumbers = SideNumbers ℕ
 
-abbrev pub long_price : Option ℕ → Option ℕ
-long_price (long.Some n) = long.Some n
-long_price long.None = long.None
+abbrev pub LongNumbers : Type 0
+LongNumbers = SideNumbers ℕ
 
-abbrev pub short_numbers_of : List Value → ShortNumbers
-short_numbers_of vs =
-    record {
-      market = number_at vs 0;
-      price = short_price (price_at vs 1);
-      size = number_at vs 2;
-      customer = number_at vs 3;
-      professional = number_at vs 4;
-    }
+abbrev pub ShortQuote : Type 0
+ShortQuote = Quote ℕ
 
-abbrev pub short_numbers_fields : ShortNumbers → List Value
-short_numbers_fields m = num m.market ∷ priced (long_price m.price) ∷ num m.size ∷ num m.customer ∷ num m.professional ∷ []
+abbrev pub LongQuote : Type 0
+LongQuote = Quote ℕ
 
-abbrev pub long_numbers_of : List Value → LongNumbers
-long_numbers_of vs =
+abbrev pub ShortSide : Type 0
+ShortSide = OneSide ℕ
+
+abbrev pub LongSide : Type 0
+LongSide = OneSide ℕ
+
+abbrev pub numbers_of : List Value → SideNumbers ℕ
+numbers_of vs =
     record {
       market = number_at vs 0;
       price = price_at vs 1;
@@ -238,64 +237,70 @@ long_numbers_of vs =
       professional = number_at vs 4;
     }
 
-abbrev pub long_numbers_fields : LongNumbers → List Value
-long_numbers_fields m = num m.market ∷ priced m.price ∷ num m.size ∷ num m.customer ∷ num m.professional ∷ []
+abbrev pub numbers_fields : SideNumbers ℕ → List Value
+numbers_fields m = num m.market ∷ priced m.price ∷ num m.size ∷ num m.customer ∷ num m.professional ∷ []
 
 -- the fields of a quote before its sides
 abbrev pub quote_fields : Stamp → ℕ → ℕ → List Value
 quote_fields s id condition = stamp_fields s ++ (num id ∷ num condition ∷ [])
 
-abbrev pub short_quote_of : List Value → ShortQuote
-short_quote_of vs =
+abbrev pub whole_quote_of : List Value → Quote ℕ
+whole_quote_of vs =
     record {
       stamp = stamp_of vs;
       id = number_at vs 2;
       condition = number_at vs 3;
-      bid = short_numbers_of (drop 4 vs);
-      ask = short_numbers_of (drop 9 vs);
+      bid = numbers_of (drop 4 vs);
+      ask = numbers_of (drop 9 vs);
     }
 
-abbrev pub short_quote_fields : ShortQuote → List Value
-short_quote_fields m = quote_fields m.stamp m.id m.condition ++ (short_numbers_fields m.bid ++ short_numbers_fields m.ask)
+abbrev pub whole_quote_fields : Quote ℕ → List Value
+whole_quote_fields m = quote_fields m.stamp m.id m.condition ++ (numbers_fields m.bid ++ numbers_fields m.ask)
 
-abbrev pub long_quote_of : List Value → LongQuote
-long_quote_of vs =
-    record {
-      stamp = stamp_of vs;
-      id = number_at vs 2;
-      condition = number_at vs 3;
-      bid = long_numbers_of (drop 4 vs);
-      ask = long_numbers_of (drop 9 vs);
-    }
-
-abbrev pub long_quote_fields : LongQuote → List Value
-long_quote_fields m = quote_fields m.stamp m.id m.condition ++ (long_numbers_fields m.bid ++ long_numbers_fields m.ask)
-
-abbrev pub short_side_of : Side → List Value → ShortSide
-short_side_of side vs =
+abbrev pub one_side_of : Side → List Value → OneSide ℕ
+one_side_of side vs =
     record {
       stamp = stamp_of vs;
       id = number_at vs 2;
       condition = number_at vs 3;
       side = side;
-      numbers = short_numbers_of (drop 4 vs);
+      numbers = numbers_of (drop 4 vs);
     }
 
-abbrev pub short_side_fields : ShortSide → List Value
-short_side_fields m = quote_fields m.stamp m.id m.condition ++ short_numbers_fields m.numbers
+abbrev pub one_side_fields : OneSide ℕ → List Value
+one_side_fields m = quote_fields m.stamp m.id m.condition ++ numbers_fields m.numbers
 
-abbrev pub long_side_of : Side → List Value → LongSide
-long_side_of side vs =
-    record {
-      stamp = stamp_of vs;
-      id = number_at vs 2;
-      condition = number_at vs 3;
-      side = side;
-      numbers = long_numbers_of (drop 4 vs);
-    }
+-- the same records with f of each of their numbers, as where T holds them in two bytes or in four and f says which number it is
+module _ {T : Type 0} (f : T → ℕ) where
+  abbrev pub map_numbers : SideNumbers T → SideNumbers ℕ
+  map_numbers m =
+      record {
+        market = f m.market;
+        price = option_map f m.price;
+        size = f m.size;
+        customer = f m.customer;
+        professional = f m.professional;
+      }
 
-abbrev pub long_side_fields : LongSide → List Value
-long_side_fields m = quote_fields m.stamp m.id m.condition ++ long_numbers_fields m.numbers
+  abbrev pub map_quote : Quote T → Quote ℕ
+  map_quote m =
+      record {
+        stamp = m.stamp;
+        id = m.id;
+        condition = m.condition;
+        bid = map_numbers m.bid;
+        ask = map_numbers m.ask;
+      }
+
+  abbrev pub map_side : OneSide T → OneSide ℕ
+  map_side m =
+      record {
+        stamp = m.stamp;
+        id = m.id;
+        condition = m.condition;
+        side = m.side;
+        numbers = map_numbers m.numbers;
+      }
 
 abbrev pub end_of_replay_of : List Value → EndOfReplay
 end_of_replay_of vs = record { number = number_at vs 0 }
@@ -308,10 +313,10 @@ abbrev pub fields_of : Message → Texts → List Value
 fields_of (message.SystemEvent m) t = system_event_fields m
 fields_of (message.Directory m) t = directory_fields m t
 fields_of (message.TradingAction m) t = trading_action_fields m
-fields_of (message.ShortQuote m) t = short_quote_fields m
-fields_of (message.LongQuote m) t = long_quote_fields m
-fields_of (message.ShortSide m) t = short_side_fields m
-fields_of (message.LongSide m) t = long_side_fields m
+fields_of (message.ShortQuote m) t = whole_quote_fields m
+fields_of (message.LongQuote m) t = whole_quote_fields m
+fields_of (message.ShortSide m) t = one_side_fields m
+fields_of (message.LongSide m) t = one_side_fields m
 fields_of (message.EndOfReplay m) t = end_of_replay_fields m
 
 abbrev pub no_texts : Texts
@@ -322,16 +327,16 @@ abbrev pub prices_of : Message → List (Option ℕ)
 prices_of (message.SystemEvent m) = []
 prices_of (message.Directory m) = []
 prices_of (message.TradingAction m) = []
-prices_of (message.ShortQuote m) = long_price m.bid.price ∷ long_price m.ask.price ∷ []
+prices_of (message.ShortQuote m) = m.bid.price ∷ m.ask.price ∷ []
 prices_of (message.LongQuote m) = m.bid.price ∷ m.ask.price ∷ []
-prices_of (message.ShortSide m) = long_price m.numbers.price ∷ []
+prices_of (message.ShortSide m) = m.numbers.price ∷ []
 prices_of (message.LongSide m) = m.numbers.price ∷ []
 prices_of (message.EndOfReplay m) = []
 
 -- zero is held as a price above zero by none of them
 abbrev pub NoZero : List (Option ℕ) → Type 0
 NoZero [] = Unit
-NoZero (x ∷ xs) = (x ≡ long.Some 0 → ⊥) × NoZero xs
+NoZero (x ∷ xs) = (x ≡ Some 0 → ⊥) × NoZero xs
 
 -- ---- THE TEN LETTERS, each with its exact length
 
@@ -360,29 +365,51 @@ directory_letter =
 abbrev pub trading_action_letter : Letter Content
 trading_action_letter = letter 72 16 trading_action_rows (λ vs. message.TradingAction (trading_action_of vs))
 
--- q 36
-abbrev pub short_quote_letter : Letter Content
-short_quote_letter = letter 113 36 short_quote_rows (λ vs. message.ShortQuote (short_quote_of vs))
+-- a form of a quote, beside the width of its numbers: the rule of a price, the letters, and the messages that hold it
+pub record Form : Type 0 where
+  pub keeps : ℕ → Bool
+  pub quote_code : ℕ
+  pub side_code : Side → ℕ
+  pub quote : Quote ℕ → Message
+  pub side : OneSide ℕ → Message
 
--- Q 56
-abbrev pub long_quote_letter : Letter Content
-long_quote_letter = letter 81 56 long_quote_rows (λ vs. message.LongQuote (long_quote_of vs))
+abbrev pub quote_letter : ℕ → Form → Letter Content
+quote_letter w f = letter f.quote_code (16 + 10 * w) (whole_quote_rows w f.keeps) (λ vs. f.quote (whole_quote_of vs))
 
--- b a 26; bid is b
+abbrev pub side_letter : ℕ → Form → Side → Letter Content
+side_letter w f s = letter (f.side_code s) (16 + 5 * w) (one_side_rows w f.keeps) (λ vs. f.side (one_side_of s vs))
+
+-- b a; bid is b
 abbrev pub short_side_code : Side → ℕ
 short_side_code Bid = 98
 short_side_code Ask = 97
 
-abbrev pub short_side_letter : Side → Letter Content
-short_side_letter s = letter (short_side_code s) 26 short_side_rows (λ vs. message.ShortSide (short_side_of s vs))
-
--- B A 36; bid is B
+-- B A; bid is B
 abbrev pub long_side_code : Side → ℕ
 long_side_code Bid = 66
 long_side_code Ask = 65
 
+abbrev pub short_form : Form
+short_form = record { keeps = anything; quote_code = 113; side_code = short_side_code; quote = message.ShortQuote; side = message.ShortSide }
+
+abbrev pub long_form : Form
+long_form = record { keeps = price_in_range; quote_code = 81; side_code = long_side_code; quote = message.LongQuote; side = message.LongSide }
+
+-- q 36
+abbrev pub short_quote_letter : Letter Content
+short_quote_letter = quote_letter 2 short_form
+
+-- Q 56
+abbrev pub long_quote_letter : Letter Content
+long_quote_letter = quote_letter 4 long_form
+
+-- b a 26
+abbrev pub short_side_letter : Side → Letter Content
+short_side_letter = side_letter 2 short_form
+
+-- B A 36
 abbrev pub long_side_letter : Side → Letter Content
-long_side_letter s = letter (long_side_code s) 36 long_side_rows (λ vs. message.LongSide (long_side_of s vs))
+long_side_letter = side_letter 4 long_form
 
 -- M 21
 abbrev pub end_of_replay_letter : Letter Content

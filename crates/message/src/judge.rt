@@ -1,15 +1,15 @@
 // Bytes of a letter's length judged: the record that they make if every field is in its list or range, with its texts beside it.
 // A quote's rules are tested before its numbers are taken, so that the compiler reads each number with one load.
-ghost use Rattle.std.specs.Prelude.{◌≡◌, ◌&&◌, ◌≤◌, length};
+ghost use Rattle.std.specs.Prelude.{◌≡◌, ◌&&◌, ◌+◌, ◌*◌, ◌≤◌, length};
 ghost use Rattle.field.specs.Bytes.{part, be};
 ghost use Rattle.field.specs.Limits.{time_in_range};
 ghost use Rattle.message.specs.Layout.{values, keeps_all};
 ghost use Rattle.message.specs.Feed.{Sized};
-ghost use Rattle.message.specs.Letters.{listed, conditions, no_texts, letters, letter_in, directory_letter, directory_rows, system_event_letter, system_event_rows, trading_action_letter, trading_action_rows, short_quote_letter, short_quote_rows, long_quote_letter, long_quote_rows, short_side_letter, short_side_rows, long_side_letter, long_side_rows, end_of_replay_letter, end_of_replay_rows};
+ghost use Rattle.message.specs.Letters.{listed, conditions, no_texts, letters, letter_in, directory_letter, directory_rows, system_event_letter, system_event_rows, trading_action_letter, trading_action_rows, quote_letter, whole_quote_rows, side_letter, one_side_rows, end_of_replay_letter, end_of_replay_rows};
 ghost use Rattle.message.specs.Message.{accepted, read_fields};
 
+use crate::width::Width;
 use crate::{Message, Reading, Refusal, Side, entry, lengths, rules, take};
-use field::limits;
 
 // A message that has no texts, read whole.
 fn whole(m: Message) -> Reading
@@ -66,56 +66,45 @@ fn keep_head(bytes: &[u8]) -> bool
     rules::keep_head(take::time(bytes), take::condition(bytes))
 }
 
-fn keep_long_quote(bytes: &[u8]) -> bool
-    requires { long_quote_letter.size ≤ length bytes.now }
-    ensures { result ≡ keeps_all long_quote_rows (values long_quote_rows bytes.now) }
+// The rule of a price, tested where it lies.
+fn keep_price<T: Width>(bytes: &[u8], at: usize) -> bool
+    requires { at + T.width ≤ length bytes.now }
+    ensures { result ≡ T.form.keeps (be (part bytes.now at T.width)) }
 {
-    keep_head(bytes) & (limits::price_keeps(bytes, 20) & limits::price_keeps(bytes, 40))
+    field::read::<T>(bytes, at).keeps()
 }
 
-fn keep_long_side(bytes: &[u8]) -> bool
-    requires { (long_side_letter Side.Bid).size ≤ length bytes.now }
-    ensures { result ≡ keeps_all long_side_rows (values long_side_rows bytes.now) }
+fn keep_quote<T: Width>(bytes: &[u8]) -> bool
+    requires { 16 + 10 * T.width ≤ length bytes.now }
+    ensures { result ≡ keeps_all (whole_quote_rows T.width T.form.keeps) (values (whole_quote_rows T.width T.form.keeps) bytes.now) }
 {
-    keep_head(bytes) & limits::price_keeps(bytes, 20)
+    let size = T::size();
+    keep_head(bytes) & (keep_price::<T>(bytes, 16 + size) & keep_price::<T>(bytes, 16 + 6 * size))
 }
 
-fn short_quote(bytes: &[u8]) -> Reading
-    requires { short_quote_letter.size ≤ length bytes.now }
-    ensures { result ≡ read_fields short_quote_letter (values short_quote_rows bytes.now) }
+fn keep_side<T: Width>(bytes: &[u8]) -> bool
+    requires { 16 + 5 * T.width ≤ length bytes.now }
+    ensures { result ≡ keeps_all (one_side_rows T.width T.form.keeps) (values (one_side_rows T.width T.form.keeps) bytes.now) }
 {
-    if keep_head(bytes) {
-        return whole(Message::ShortQuote(take::short_quote(bytes)));
+    keep_head(bytes) & keep_price::<T>(bytes, 16 + T::size())
+}
+
+fn quote<T: Width>(bytes: &[u8]) -> Reading
+    requires { 16 + 10 * T.width ≤ length bytes.now }
+    ensures { result ≡ read_fields (quote_letter T.width T.form) (values (whole_quote_rows T.width T.form.keeps) bytes.now) }
+{
+    if keep_quote::<T>(bytes) {
+        return whole(T::quote(take::quote::<T>(bytes)));
     }
     crate::refuse(Refusal::BadField)
 }
 
-fn long_quote(bytes: &[u8]) -> Reading
-    requires { long_quote_letter.size ≤ length bytes.now }
-    ensures { result ≡ read_fields long_quote_letter (values long_quote_rows bytes.now) }
+fn side<T: Width>(bytes: &[u8], side: Side) -> Reading
+    requires { 16 + 5 * T.width ≤ length bytes.now }
+    ensures { result ≡ read_fields (side_letter T.width T.form side) (values (one_side_rows T.width T.form.keeps) bytes.now) }
 {
-    if keep_long_quote(bytes) {
-        return whole(Message::LongQuote(take::long_quote(bytes)));
-    }
-    crate::refuse(Refusal::BadField)
-}
-
-fn short_side(bytes: &[u8], side: Side) -> Reading
-    requires { (short_side_letter side).size ≤ length bytes.now }
-    ensures { result ≡ read_fields (short_side_letter side) (values short_side_rows bytes.now) }
-{
-    if keep_head(bytes) {
-        return whole(Message::ShortSide(take::short_side(bytes, side)));
-    }
-    crate::refuse(Refusal::BadField)
-}
-
-fn long_side(bytes: &[u8], side: Side) -> Reading
-    requires { (long_side_letter side).size ≤ length bytes.now }
-    ensures { result ≡ read_fields (long_side_letter side) (values long_side_rows bytes.now) }
-{
-    if keep_long_side(bytes) {
-        return whole(Message::LongSide(take::long_side(bytes, side)));
+    if keep_side::<T>(bytes) {
+        return whole(T::side(take::side::<T>(bytes, side)));
     }
     crate::refuse(Refusal::BadField)
 }
@@ -139,12 +128,12 @@ pub fn message(letter: u8, bytes: &[u8]) -> Reading
         b'S' => system_event(bytes),
         b'm' => directory(bytes),
         b'H' => trading_action(bytes),
-        b'q' => short_quote(bytes),
-        b'Q' => long_quote(bytes),
-        b'b' => short_side(bytes, Side::Bid),
-        b'a' => short_side(bytes, Side::Ask),
-        b'B' => long_side(bytes, Side::Bid),
-        b'A' => long_side(bytes, Side::Ask),
+        b'q' => quote::<u16>(bytes),
+        b'Q' => quote::<u32>(bytes),
+        b'b' => side::<u16>(bytes, Side::Bid),
+        b'a' => side::<u16>(bytes, Side::Ask),
+        b'B' => side::<u32>(bytes, Side::Bid),
+        b'A' => side::<u32>(bytes, Side::Ask),
         _ => end_of_replay(bytes),
     }
 }

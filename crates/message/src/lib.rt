@@ -15,6 +15,7 @@ mod put;
 mod rules;
 mod take;
 pub mod test;
+pub mod width;
 
 // The tracking number, and the nanoseconds since midnight.
 #[derive(Clone, Copy)]
@@ -29,26 +30,15 @@ pub enum Side {
     Ask,
 }
 
-// What a side bids or asks: a price above zero, in ten-thousandths of a dollar, or none. Zero is no price above zero.
-// The same for a short side, in pennies.
-// One side of a quote in two bytes each: the price is in pennies.
+// One side of a quote, in numbers of two bytes or of four: the price is in pennies where they have two, in ten-thousandths of a dollar where they have
+// four. It is above zero, or there is none; zero is no price above zero.
 #[derive(Clone, Copy)]
-pub struct ShortNumbers {
-    pub market: u16,
-    pub price: Option<u16>,
-    pub size: u16,
-    pub customer: u16,
-    pub professional: u16,
-}
-
-// One side of a quote in four bytes each: the price is in ten-thousandths of a dollar.
-#[derive(Clone, Copy)]
-pub struct LongNumbers {
-    pub market: u32,
-    pub price: Option<u32>,
-    pub size: u32,
-    pub customer: u32,
-    pub professional: u32,
+pub struct SideNumbers<T> {
+    pub market: T,
+    pub price: Option<T>,
+    pub size: T,
+    pub customer: T,
+    pub professional: T,
 }
 
 #[derive(Clone, Copy)]
@@ -85,39 +75,22 @@ pub struct TradingAction {
 }
 
 #[derive(Clone, Copy)]
-pub struct ShortQuote {
+pub struct Quote<T> {
     pub stamp: Stamp,
     pub id: u32,
     pub condition: u8,
-    pub bid: ShortNumbers,
-    pub ask: ShortNumbers,
+    pub bid: SideNumbers<T>,
+    pub ask: SideNumbers<T>,
 }
 
+// A quote of one side.
 #[derive(Clone, Copy)]
-pub struct LongQuote {
-    pub stamp: Stamp,
-    pub id: u32,
-    pub condition: u8,
-    pub bid: LongNumbers,
-    pub ask: LongNumbers,
-}
-
-#[derive(Clone, Copy)]
-pub struct ShortSide {
+pub struct OneSide<T> {
     pub stamp: Stamp,
     pub id: u32,
     pub condition: u8,
     pub side: Side,
-    pub numbers: ShortNumbers,
-}
-
-#[derive(Clone, Copy)]
-pub struct LongSide {
-    pub stamp: Stamp,
-    pub id: u32,
-    pub condition: u8,
-    pub side: Side,
-    pub numbers: LongNumbers,
+    pub numbers: SideNumbers<T>,
 }
 
 #[derive(Clone, Copy)]
@@ -130,10 +103,10 @@ pub enum Message {
     SystemEvent(SystemEvent),
     Directory(Directory),
     TradingAction(TradingAction),
-    ShortQuote(ShortQuote),
-    LongQuote(LongQuote),
-    ShortSide(ShortSide),
-    LongSide(LongSide),
+    ShortQuote(Quote<u16>),
+    LongQuote(Quote<u32>),
+    ShortSide(OneSide<u16>),
+    LongSide(OneSide<u32>),
     EndOfReplay(EndOfReplay),
 }
 

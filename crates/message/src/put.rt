@@ -1,11 +1,15 @@
 // Records put into bytes, from the start of the memory that is lent.
-ghost use Rattle.std.specs.Prelude.{◌≡◌, ◌∷◌, ◌≤◌, length};
+ghost use Rattle.std.specs.Prelude.{◌≡◌, ◌∷◌, ◌+◌, ◌*◌, ◌≤◌, length};
 ghost use Rattle.field.specs.Bytes.{overlay};
 ghost use Rattle.message.specs.Layout.{bytes_for};
-ghost use Rattle.message.specs.Letters.{letter_for, stamp_rows, stamp_fields, system_event_rows, system_event_fields, directory_rows, directory_fields, quote_rows, quote_fields, trading_action_rows, trading_action_fields, short_quote_rows, short_quote_fields, long_quote_rows, long_quote_fields, short_side_code, short_side_rows, short_side_fields, long_side_code, long_side_rows, long_side_fields, end_of_replay_rows, end_of_replay_fields, directory_letter, end_of_replay_letter, long_quote_letter, long_side_letter, short_quote_letter, short_side_letter, system_event_letter, trading_action_letter};
+ghost use Rattle.message.specs.Letters.{letter_for, stamp_rows, stamp_fields, system_event_rows, system_event_fields, directory_rows, directory_fields, quote_rows, quote_fields, trading_action_rows, trading_action_fields, whole_quote_rows, whole_quote_fields, one_side_rows, one_side_fields, map_quote, map_side, end_of_replay_rows, end_of_replay_fields, directory_letter, end_of_replay_letter, system_event_letter, trading_action_letter};
 ghost use Rattle.message.specs.Message.{bytes_of};
 
-use crate::{Directory, EndOfReplay, LongQuote, LongSide, Message, ShortQuote, ShortSide, Side, Stamp, SystemEvent, Texts, TradingAction, entry, lengths, numbers};
+use crate::width::Width;
+use crate::{
+    Directory, EndOfReplay, Message, OneSide, Quote, Stamp, SystemEvent, Texts, TradingAction,
+    entry, lengths, numbers,
+};
 use field::decimal;
 
 // The letter and the stamp: eleven bytes.
@@ -55,70 +59,21 @@ fn trading_action(out: &mut [u8], m: TradingAction)
     head(out, b'H', s, m.id, m.state);
 }
 
-fn short_quote(out: &mut [u8], m: ShortQuote)
-    requires { short_quote_letter.size ≤ length out.old }
-    ensures { out.new ≡ overlay out.old 0 (113 ∷ bytes_for short_quote_rows (short_quote_fields m)) }
+fn quote<T: Width>(out: &mut [u8], m: Quote<T>)
+    requires { 16 + 10 * T.width ≤ length out.old }
+    ensures { out.new ≡ overlay out.old 0 (T.form.quote_code ∷ bytes_for (whole_quote_rows T.width T.form.keeps) (whole_quote_fields (map_quote T.number m))) }
 {
-    let s = m.stamp;
-    let bid = m.bid;
-    let ask = m.ask;
-    head(out, b'q', s, m.id, m.condition);
-    numbers::put_short(out, 16, bid);
-    numbers::put_short(out, 26, ask);
+    head(out, T::quote_code(), m.stamp, m.id, m.condition);
+    numbers::put(out, 16, m.bid);
+    numbers::put(out, 16 + 5 * T::size(), m.ask);
 }
 
-fn long_quote(out: &mut [u8], m: LongQuote)
-    requires { long_quote_letter.size ≤ length out.old }
-    ensures { out.new ≡ overlay out.old 0 (81 ∷ bytes_for long_quote_rows (long_quote_fields m)) }
+fn side<T: Width>(out: &mut [u8], m: OneSide<T>)
+    requires { 16 + 5 * T.width ≤ length out.old }
+    ensures { out.new ≡ overlay out.old 0 (T.form.side_code m.side ∷ bytes_for (one_side_rows T.width T.form.keeps) (one_side_fields (map_side T.number m))) }
 {
-    let s = m.stamp;
-    let bid = m.bid;
-    let ask = m.ask;
-    head(out, b'Q', s, m.id, m.condition);
-    numbers::put_long(out, 16, bid);
-    numbers::put_long(out, 36, ask);
-}
-
-fn short_side_code(side: Side) -> u8
-    ensures { result ≡ short_side_code side }
-{
-    match side {
-        Side::Bid => b'b',
-        Side::Ask => b'a',
-    }
-}
-
-fn short_side(out: &mut [u8], m: ShortSide)
-    requires { (short_side_letter m.side).size ≤ length out.old }
-    ensures { out.new ≡ overlay out.old 0 (short_side_code m.side ∷ bytes_for short_side_rows (short_side_fields m)) }
-{
-    let s = m.stamp;
-    let side = m.side;
-    let numbers = m.numbers;
-    let code = short_side_code(side);
-    head(out, code, s, m.id, m.condition);
-    numbers::put_short(out, 16, numbers);
-}
-
-fn long_side_code(side: Side) -> u8
-    ensures { result ≡ long_side_code side }
-{
-    match side {
-        Side::Bid => b'B',
-        Side::Ask => b'A',
-    }
-}
-
-fn long_side(out: &mut [u8], m: LongSide)
-    requires { (long_side_letter m.side).size ≤ length out.old }
-    ensures { out.new ≡ overlay out.old 0 (long_side_code m.side ∷ bytes_for long_side_rows (long_side_fields m)) }
-{
-    let s = m.stamp;
-    let side = m.side;
-    let numbers = m.numbers;
-    let code = long_side_code(side);
-    head(out, code, s, m.id, m.condition);
-    numbers::put_long(out, 16, numbers);
+    head(out, T::side_code(m.side), m.stamp, m.id, m.condition);
+    numbers::put(out, 16, m.numbers);
 }
 
 fn end_of_replay(out: &mut [u8], m: EndOfReplay)
@@ -137,10 +92,10 @@ pub fn message(message: Message, texts: Texts, out: &mut [u8])
         Message::SystemEvent(m) => system_event(out, m),
         Message::Directory(m) => directory(out, m, texts),
         Message::TradingAction(m) => trading_action(out, m),
-        Message::ShortQuote(m) => short_quote(out, m),
-        Message::LongQuote(m) => long_quote(out, m),
-        Message::ShortSide(m) => short_side(out, m),
-        Message::LongSide(m) => long_side(out, m),
+        Message::ShortQuote(m) => quote(out, m),
+        Message::LongQuote(m) => quote(out, m),
+        Message::ShortSide(m) => side(out, m),
+        Message::LongSide(m) => side(out, m),
         Message::EndOfReplay(m) => end_of_replay(out, m),
     }
 }

@@ -2,10 +2,14 @@
 ghost use Rattle.std.specs.Prelude.{◌≡◌, ◌&&◌};
 ghost use Rattle.field.specs.Limits.{time_in_range};
 ghost use Rattle.message.specs.Layout.{keeps_all};
-ghost use Rattle.message.specs.Letters.{listed, conditions, system_event_rows, system_event_fields, directory_rows, directory_fields, trading_action_rows, trading_action_fields, short_quote_rows, short_quote_fields, long_quote_rows, long_quote_fields, short_side_rows, short_side_fields, long_side_rows, long_side_fields, end_of_replay_rows, end_of_replay_fields};
+ghost use Rattle.message.specs.Letters.{listed, conditions, system_event_rows, system_event_fields, directory_rows, directory_fields, trading_action_rows, trading_action_fields, whole_quote_rows, whole_quote_fields, one_side_rows, one_side_fields, map_quote, map_side, end_of_replay_rows, end_of_replay_fields};
 ghost use Rattle.message.specs.Message.{keeps};
 
-use crate::{Directory, EndOfReplay, LongQuote, LongSide, Message, ShortQuote, ShortSide, SystemEvent, Texts, TradingAction, codes, entry, prices};
+use crate::width::Width;
+use crate::{
+    Directory, EndOfReplay, Message, OneSide, Quote, SystemEvent, Texts, TradingAction, codes,
+    entry, prices,
+};
 use field::limits;
 
 // The rules that every quote has.
@@ -34,34 +38,16 @@ pub fn keep_trading_action(m: TradingAction) -> bool
     limits::time_in_range(m.stamp.time) & codes::is_state(m.state)
 }
 
-pub fn keep_short_quote(m: ShortQuote) -> bool
-    ensures { result ≡ keeps_all short_quote_rows (short_quote_fields m) }
+pub fn keep_quote<T: Width>(m: Quote<T>) -> bool
+    ensures { result ≡ keeps_all (whole_quote_rows T.width T.form.keeps) (whole_quote_fields (map_quote T.number m)) }
 {
-    let bid = m.bid;
-    let ask = m.ask;
-    keep_head(m.stamp.time, m.condition) & (prices::keep_short(bid) & prices::keep_short(ask))
+    keep_head(m.stamp.time, m.condition) & (prices::keep(m.bid) & prices::keep(m.ask))
 }
 
-pub fn keep_long_quote(m: LongQuote) -> bool
-    ensures { result ≡ keeps_all long_quote_rows (long_quote_fields m) }
+pub fn keep_side<T: Width>(m: OneSide<T>) -> bool
+    ensures { result ≡ keeps_all (one_side_rows T.width T.form.keeps) (one_side_fields (map_side T.number m)) }
 {
-    let bid = m.bid;
-    let ask = m.ask;
-    keep_head(m.stamp.time, m.condition) & (prices::keep_long(bid) & prices::keep_long(ask))
-}
-
-pub fn keep_short_side(m: ShortSide) -> bool
-    ensures { result ≡ keeps_all short_side_rows (short_side_fields m) }
-{
-    let numbers = m.numbers;
-    keep_head(m.stamp.time, m.condition) & prices::keep_short(numbers)
-}
-
-pub fn keep_long_side(m: LongSide) -> bool
-    ensures { result ≡ keeps_all long_side_rows (long_side_fields m) }
-{
-    let numbers = m.numbers;
-    keep_head(m.stamp.time, m.condition) & prices::keep_long(numbers)
+    keep_head(m.stamp.time, m.condition) & prices::keep(m.numbers)
 }
 
 pub fn keep_end_of_replay(m: EndOfReplay) -> bool
@@ -77,10 +63,10 @@ pub fn keep(message: Message, texts: Texts) -> bool
         Message::SystemEvent(m) => keep_system_event(m),
         Message::Directory(m) => keep_directory(m, texts),
         Message::TradingAction(m) => keep_trading_action(m),
-        Message::ShortQuote(m) => keep_short_quote(m),
-        Message::LongQuote(m) => keep_long_quote(m),
-        Message::ShortSide(m) => keep_short_side(m),
-        Message::LongSide(m) => keep_long_side(m),
+        Message::ShortQuote(m) => keep_quote(m),
+        Message::LongQuote(m) => keep_quote(m),
+        Message::ShortSide(m) => keep_side(m),
+        Message::LongSide(m) => keep_side(m),
         Message::EndOfReplay(m) => keep_end_of_replay(m),
     }
 }

@@ -1,10 +1,14 @@
 // Records taken from bytes of their letter's length.
-ghost use Rattle.std.specs.Prelude.{◌≡◌, ◌≤◌, length};
+ghost use Rattle.std.specs.Prelude.{◌≡◌, ◌+◌, ◌*◌, ◌≤◌, length};
 ghost use Rattle.field.specs.Bytes.{part, be};
 ghost use Rattle.message.specs.Layout.{values};
-ghost use Rattle.message.specs.Letters.{stamp_rows, stamp_of, system_event_rows, system_event_of, directory_rows, directory_of, trading_action_rows, trading_action_of, short_quote_rows, short_quote_of, long_quote_rows, long_quote_of, short_side_rows, short_side_of, long_side_rows, long_side_of, end_of_replay_rows, end_of_replay_of, directory_letter, end_of_replay_letter, long_quote_letter, long_side_letter, short_quote_letter, short_side_letter, system_event_letter, trading_action_letter};
+ghost use Rattle.message.specs.Letters.{stamp_rows, stamp_of, system_event_rows, system_event_of, directory_rows, directory_of, trading_action_rows, trading_action_of, whole_quote_rows, whole_quote_of, one_side_rows, one_side_of, map_quote, map_side, end_of_replay_rows, end_of_replay_of, directory_letter, end_of_replay_letter, system_event_letter, trading_action_letter};
 
-use crate::{Directory, EndOfReplay, LongQuote, LongSide, ShortQuote, ShortSide, Side, Stamp, SystemEvent, TradingAction, entry, lengths, numbers};
+use crate::width::Width;
+use crate::{
+    Directory, EndOfReplay, OneSide, Quote, Side, Stamp, SystemEvent, TradingAction, entry,
+    lengths, numbers,
+};
 use field::decimal;
 
 pub fn time(bytes: &[u8]) -> u64
@@ -62,55 +66,29 @@ pub fn trading_action(bytes: &[u8]) -> TradingAction
     }
 }
 
-pub fn short_quote(bytes: &[u8]) -> ShortQuote
-    requires { short_quote_letter.size ≤ length bytes.now }
-    ensures { result ≡ short_quote_of (values short_quote_rows bytes.now) }
+pub fn quote<T: Width>(bytes: &[u8]) -> Quote<T>
+    requires { 16 + 10 * T.width ≤ length bytes.now }
+    ensures { map_quote T.number result ≡ whole_quote_of (values (whole_quote_rows T.width T.form.keeps) bytes.now) }
 {
-    ShortQuote {
+    Quote {
         stamp: stamp(bytes),
         id: field::read::<u32>(bytes, 11),
         condition: condition(bytes),
-        bid: numbers::short(bytes, 16),
-        ask: numbers::short(bytes, 26),
+        bid: numbers::read::<T>(bytes, 16),
+        ask: numbers::read::<T>(bytes, 16 + 5 * T::size()),
     }
 }
 
-pub fn long_quote(bytes: &[u8]) -> LongQuote
-    requires { long_quote_letter.size ≤ length bytes.now }
-    ensures { result ≡ long_quote_of (values long_quote_rows bytes.now) }
+pub fn side<T: Width>(bytes: &[u8], side: Side) -> OneSide<T>
+    requires { 16 + 5 * T.width ≤ length bytes.now }
+    ensures { map_side T.number result ≡ one_side_of side (values (one_side_rows T.width T.form.keeps) bytes.now) }
 {
-    LongQuote {
-        stamp: stamp(bytes),
-        id: field::read::<u32>(bytes, 11),
-        condition: condition(bytes),
-        bid: numbers::long(bytes, 16),
-        ask: numbers::long(bytes, 36),
-    }
-}
-
-pub fn short_side(bytes: &[u8], side: Side) -> ShortSide
-    requires { (short_side_letter side).size ≤ length bytes.now }
-    ensures { result ≡ short_side_of side (values short_side_rows bytes.now) }
-{
-    ShortSide {
+    OneSide {
         stamp: stamp(bytes),
         id: field::read::<u32>(bytes, 11),
         condition: condition(bytes),
         side,
-        numbers: numbers::short(bytes, 16),
-    }
-}
-
-pub fn long_side(bytes: &[u8], side: Side) -> LongSide
-    requires { (long_side_letter side).size ≤ length bytes.now }
-    ensures { result ≡ long_side_of side (values long_side_rows bytes.now) }
-{
-    LongSide {
-        stamp: stamp(bytes),
-        id: field::read::<u32>(bytes, 11),
-        condition: condition(bytes),
-        side,
-        numbers: numbers::long(bytes, 16),
+        numbers: numbers::read::<T>(bytes, 16),
     }
 }
 

@@ -3,28 +3,26 @@
 use mathlib.Core.Path.{◌≡◌, refl, sym, ap, ◌∙◌}
 use mathlib.Core.Bool.{Bool, true, ◌&&◌}
 use mathlib.Core.List.{List, [], ◌∷◌, ◌++◌, append-nil}
-use Prim.Native.Nat.{ℕ, ◌+◌, ◌≤◌}
+use Prim.Native.Nat.{ℕ, ◌+◌, ◌*◌, ◌≤◌}
+use native.Mathlib.Nat.{add-zero}
 use native.Mathlib.Numerals.{unary_clauses}
 use native.Mathlib.Omega.{arith}
 use borrow.Author.Tests.{leb-true, eqb-true}
 use lib.Dec.{leb, eqb}
 use lib.ListN.{length, take, drop, get_or}
-use Rattle.field.specs.Bytes.{part, overlay, be, digits, bytes_be, Bytes}
+use Rattle.field.specs.Bytes.{part, overlay, be, bytes_be, Bytes}
+use Rattle.field.specs.Limits.{price_in_range}
 use Rattle.field.specs.Decimal.{chars_then_spaces}
 use Rattle.field.proofs.Bools.{both_left, both_right}
-use Rattle.field.proofs.Parts.{overlay-length}
-use Rattle.field.proofs.Numbers.{Lent, lent-bytes, rewrites}
+use Rattle.field.proofs.Numbers.{Lent, lent-bytes, rewrites, carried}
 use Rattle.field.proofs.Writes.{carried-run}
 use Rattle.message.specs.Layout.{Value, num, raw, priced, Rule, binary, decimal, text, bytes, price, Row, value_in, bytes_in, values, bytes_for}
-use Rattle.message.specs.Letters.{letters, letter_in, end_of_replay_rows, end_of_replay_of, stamp_rows, instrument_rows, directory_rows, quote_rows, system_event_rows, short_numbers_rows, long_numbers_rows, long_numbers_fields, long_numbers_of, short_quote_rows, long_quote_rows, short_side_rows, long_side_rows}
-use Rattle.message.specs.declared.Side.{Side}
-use Rattle.message.specs.declared.LongNumbers.{LongNumbers}
+use Rattle.message.specs.Letters.{letters, letter_in, end_of_replay_rows, end_of_replay_of, stamp_rows, instrument_rows, directory_rows, quote_rows, system_event_rows, numbers_rows, numbers_fields, numbers_of, long_numbers_rows}
+use Rattle.message.specs.declared.SideNumbers.{SideNumbers}
 use Rattle.message.proofs.Layouts.{never, plain, fields-run}
-use Rattle.message.proofs.Puts.{long-numbers-put}
-use Rattle.message.proofs.Typed.{inside}
-use Rattle.record.specs.Places.{record_size, letter_place, stamp_places, instrument_places, directory_places, end_of_replay_places, record_letters, head_places, system_event_places, side_at, short_places, long_places, short_quote_places, long_quote_places, short_side_places, long_side_places}
+use Rattle.message.proofs.Puts.{numbers-put}
+use Rattle.record.specs.Places.{record_size, letter_place, stamp_places, instrument_places, directory_places, end_of_replay_places, record_letters, head_places, system_event_places, low_places, side_places}
 use Rattle.record.specs.Record.{laid, laid_from, laid_back}
-use Rattle.record.proofs.Laid.{laid-length}
 
 -- a rule writes a value as it is, but for numbers in characters
 as-it-is : (r : Rule) (w : ℕ) (v : Value) → plain r ≡ true → bytes_in r w v ≡ bytes_in bytes w v
@@ -131,62 +129,72 @@ pub event-moved : (xs bs : List ℕ) {us zs : List ℕ} → Lent bs → 12 ≤ l
 unfolding laid values paired
 event-moved xs bs {us} {zs} k h e f = moved 12 (drop 2 system_event_rows) (drop 2 system_event_places) bs us refl h k (zs, f, refl) ∙ rw e
 
-pub short-moved : (xs bs : List ℕ) (at from : ℕ) {us vs ws ys zs : List ℕ} → Lent bs → from + 10 ≤ length bs → us ≡ overlay xs (at + 2) (part bs from 2)
-    → vs ≡ overlay us (at + 6) (part bs (from + 2) 2) → ws ≡ overlay vs (at + 10) (part bs (from + 4) 2) → ys ≡ overlay ws (at + 14) (part bs (from + 6) 2)
-    → zs ≡ overlay ys (at + 18) (part bs (from + 8) 2) → zs ≡ laid (short_places at) (values (short_numbers_rows from) bs) xs
-short-moved xs bs at from {us} {vs} {ws} {ys} {zs} k h e f g i j =
-    laid-moved (short_numbers_rows from) (short_places at) bs xs zs
-    (omega arith, refl, refl, refl, (omega arith, refl, refl, refl, (omega arith, refl, refl, refl, (omega arith, refl, refl, refl, (omega arith, refl, refl, refl, tt)))))
-    (lent-bytes bs k) (us, e, (vs, f, (ws, g, (ys, i, (zs, j, refl)))))
+-- ---- the numbers of a side, of w bytes each, which the code counts as k
 
--- five numbers side by side
-long-laid : (xs : List ℕ) (at : ℕ) (n : LongNumbers) → at + 20 ≤ length xs
-    → overlay xs at (bytes_for (long_numbers_rows at) (long_numbers_fields n)) ≡ laid (long_places at) (long_numbers_fields n) xs
+module _ (w : ℕ) (keeps : ℕ → Bool) (xs bs : List ℕ) (lent : Lent bs) {k : ℕ} (wide : k ≡ w) where
+  pub numbers-moved : (low from : ℕ) {a b c d e : ℕ} {us vs ws ys zs : List ℕ} → from + 5 * w ≤ length bs
+      → a ≡ be (part bs from w) → us ≡ overlay xs low (bytes_be w a) → b ≡ be (part bs (from + k) w) → vs ≡ overlay us (low + 4) (bytes_be w b)
+      → c ≡ be (part bs (from + 2 * k) w) → ws ≡ overlay vs (low + 8) (bytes_be w c) → d ≡ be (part bs (from + 3 * k) w) → ys ≡ overlay ws (low + 12) (bytes_be w d)
+      → e ≡ be (part bs (from + 4 * k) w) → zs ≡ overlay ys (low + 16) (bytes_be w e)
+      → zs ≡ laid (low_places w low) (values (numbers_rows w keeps from) bs) xs
+  numbers-moved low from {us = us} {vs = vs} {ws = ws} {ys = ys} {zs = zs} h a f b g c i d j e l =
+      laid-moved (numbers_rows w keeps from) (low_places w low) bs xs zs
+      (omega arith, refl, refl, refl, (omega arith, refl, refl, refl, (omega arith, refl, refl, refl, (omega arith, refl, refl, refl, (omega arith, refl, refl, refl, tt)))))
+      (lent-bytes bs lent) (
+        us,
+        carried w xs low bs from lent (omega arith) a f,
+        (
+          vs,
+          carried w us (low + 4) bs (from + w) lent (omega arith) (rw wide at b) g,
+          (
+            ws,
+            carried w vs (low + 8) bs (from + 2 * w) lent (omega arith) (rw wide at c) i,
+            (ys, carried w ws (low + 12) bs (from + 3 * w) lent (omega arith) (rw wide at d) j, (zs, carried w ys (low + 16) bs (from + 4 * w) lent (omega arith) (rw wide at e) l, refl)),
+          ),
+        ),
+      )
+
+  -- and back
+  pub numbers-back : (low to : ℕ) {a b c d e : ℕ} {us vs ws ys zs : List ℕ} → low + 16 + w ≤ length bs
+      → a ≡ be (part bs low w) → us ≡ overlay xs to (bytes_be w a) → b ≡ be (part bs (low + 4) w) → vs ≡ overlay us (to + k) (bytes_be w b)
+      → c ≡ be (part bs (low + 8) w) → ws ≡ overlay vs (to + 2 * k) (bytes_be w c) → d ≡ be (part bs (low + 12) w) → ys ≡ overlay ws (to + 3 * k) (bytes_be w d)
+      → e ≡ be (part bs (low + 16) w) → zs ≡ overlay ys (to + 4 * k) (bytes_be w e)
+      → zs ≡ laid (numbers_rows w keeps to) (values (low_places w low) bs) xs
+  numbers-back low to {us = us} {vs = vs} {ws = ws} {ys = ys} {zs = zs} h a f b g c i d j e l =
+      laid-moved (low_places w low) (numbers_rows w keeps to) bs xs zs
+      (omega arith, refl, refl, refl, (omega arith, refl, refl, refl, (omega arith, refl, refl, refl, (omega arith, refl, refl, refl, (omega arith, refl, refl, refl, tt)))))
+      (lent-bytes bs lent) (
+        us,
+        carried w xs to bs low lent (omega arith) a f,
+        (
+          vs,
+          carried w us (to + w) bs (low + 4) lent (omega arith) b (rw wide at g),
+          (
+            ws,
+            carried w vs (to + 2 * w) bs (low + 8) lent (omega arith) c (rw wide at i),
+            (ys, carried w ws (to + 3 * w) bs (low + 12) lent (omega arith) d (rw wide at j), (zs, carried w ys (to + 4 * w) bs (low + 16) lent (omega arith) e (rw wide at l), refl)),
+          ),
+        ),
+      )
+
+-- those of four bytes side by side
+long-laid : (xs : List ℕ) (at : ℕ) (n : SideNumbers ℕ) → at + 20 ≤ length xs
+    → overlay xs at (bytes_for (long_numbers_rows at) (numbers_fields n)) ≡ laid (low_places 4 at) (numbers_fields n) xs
 unfolding laid
-long-laid xs at n h = sym (long-numbers-put xs at n refl h refl refl refl refl refl)
+long-laid xs at n h = sym (numbers-put 4 price_in_range xs at n refl refl h refl refl refl refl refl)
 
-numbers-length : (at : ℕ) (n : LongNumbers) → length (bytes_for (long_numbers_rows at) (long_numbers_fields n)) ≡ 20
-unfolding bytes_for digits
-numbers-length at n = refl
-
--- ---- the sides of a quote behind its head
-
-module _ (xs bs : List ℕ) {us : List ℕ} (e : us ≡ laid (letter_place ∷ head_places) (values (letter_place ∷ quote_rows) bs) xs) where
-  pub short-side-moved : (side : Side) (at : ℕ) {zs : List ℕ} → at ≡ side_at side → zs ≡ laid (short_places at) (values (short_numbers_rows 16) bs) us
-      → zs ≡ laid (letter_place ∷ short_side_places side) (values (letter_place ∷ short_side_rows) bs) xs
+module _ (w : ℕ) (keeps : ℕ → Bool) (four : w ≡ 4) (bs xs : List ℕ) {zs : List ℕ} where
+  pub long-moved : (at from : ℕ) → at + 20 ≤ length xs
+      → zs ≡ overlay xs at (bytes_for (long_numbers_rows at) (numbers_fields (numbers_of (values (long_numbers_rows from) bs))))
+      → zs ≡ laid (side_places w at) (values (numbers_rows w keeps from) bs) xs
   unfolding laid values
-  short-side-moved side at q f = rw (f, e, q)
+  long-moved at from h e = rw (four, add-zero at) (e ∙ long-laid xs at (numbers_of (values (long_numbers_rows from) bs)) h)
 
-  pub short-quote-moved : {vs zs : List ℕ} → vs ≡ laid (short_places 24) (values (short_numbers_rows 16) bs) us → zs ≡ laid (short_places 44) (values (short_numbers_rows 26) bs) vs
-      → zs ≡ laid (letter_place ∷ short_quote_places) (values (letter_place ∷ short_quote_rows) bs) xs
+  pub long-back : (at to : ℕ) → to + 20 ≤ length xs
+      → zs ≡ overlay xs to (bytes_for (long_numbers_rows to) (numbers_fields (numbers_of (values (long_numbers_rows at) bs))))
+      → zs ≡ laid (numbers_rows w keeps to) (values (side_places w at) bs) xs
   unfolding laid values
-  short-quote-moved f g = rw (g, f, e)
-
-  module _ (h : record_size ≤ length xs) where
-    head-long : length us ≡ length xs
-    unfolding values digits inside
-    head-long =
-        ap length e
-        ∙ laid-length (letter_place ∷ head_places) (values (letter_place ∷ quote_rows) bs) xs record_size (refl, (refl, (refl, (refl, (refl, tt))))) h refl
-
-    pub long-side-moved : (side : Side) (at : ℕ) {zs : List ℕ} → at ≡ side_at side → at ≤ 44
-        → zs ≡ overlay us at (bytes_for (long_numbers_rows at) (long_numbers_fields (long_numbers_of (values (long_numbers_rows 16) bs))))
-        → zs ≡ laid (letter_place ∷ long_side_places side) (values (letter_place ∷ long_side_rows) bs) xs
-    unfolding laid values
-    long-side-moved side at q l f =
-        f ∙ long-laid us at (long_numbers_of (values (long_numbers_rows 16) bs)) (omega (arith, head-long)) ∙ rw (e, q)
-
-    pub long-quote-moved : {vs zs : List ℕ} → vs ≡ overlay us 24 (bytes_for (long_numbers_rows 24) (long_numbers_fields (long_numbers_of (values (long_numbers_rows 16) bs))))
-        → zs ≡ overlay vs 44 (bytes_for (long_numbers_rows 44) (long_numbers_fields (long_numbers_of (values (long_numbers_rows 36) bs))))
-        → zs ≡ laid (letter_place ∷ long_quote_places) (values (letter_place ∷ long_quote_rows) bs) xs
-    unfolding laid values
-    long-quote-moved {vs} f g =
-        let bid = long_numbers_of (values (long_numbers_rows 16) bs) in
-        let wide : length (bytes_for (long_numbers_rows 24) (long_numbers_fields bid)) ≡ 20 = numbers-length 24 bid in
-        let still : length vs ≡ length us = ap length f ∙ overlay-length us 24 (bytes_for (long_numbers_rows 24) (long_numbers_fields bid)) (omega (arith, head-long)) in
-        g ∙ long-laid vs 44 (long_numbers_of (values (long_numbers_rows 36) bs)) (omega (arith, head-long))
-        ∙ ap (laid (long_places 44) (long_numbers_fields (long_numbers_of (values (long_numbers_rows 36) bs)))) (f ∙ long-laid us 24 bid (omega (arith, head-long)))
-        ∙ rw e
+  long-back at to h e = rw (four, add-zero at) (e ∙ long-laid xs to (numbers_of (values (long_numbers_rows at) bs)) h)
 
 -- ---- a directory
 
@@ -202,14 +210,6 @@ unfolding paired
 terms-moved xs bs {us} {vs} {ys} {zs} k h l e f g j =
     moved 63 (take 5 instrument_rows) (take 5 instrument_places) bs xs refl h k
     (us, e, (vs, f, (overlay vs 68 (part bs 23 1), refl, (ys, pair vs bs 68 23 (omega arith) (omega arith) g, (zs, j, refl)))))
-
-pub underlying-moved : (xs bs : List ℕ) {us vs zs : List ℕ} → 63 ≤ length bs → record_size ≤ length xs → us ≡ overlay xs 83 (part bs 31 8)
-    → vs ≡ overlay us 91 (part bs 39 4) → zs ≡ overlay vs 95 (part bs 43 1) → zs ≡ overlay xs 83 (part bs 31 13)
-underlying-moved xs bs {us} {vs} {zs} h g e f i = carried-run bs 31 xs 83 8 (4 ∷ 1 ∷ []) (omega arith) (omega arith) e (vs, f, (zs, i, refl))
-
-pub reserved-moved : (xs bs : List ℕ) {us zs : List ℕ} → 63 ≤ length bs → record_size ≤ length xs → us ≡ overlay xs 96 (part bs 47 8)
-    → zs ≡ overlay us 104 (part bs 55 8) → zs ≡ overlay xs 96 (part bs 47 16)
-reserved-moved xs bs {us} {zs} h g e f = carried-run bs 47 xs 96 8 (8 ∷ []) (omega arith) (omega arith) e (zs, f, refl)
 
 pub middle-moved : (xs bs : List ℕ) {us vs zs : List ℕ} → Lent bs → 63 ≤ length bs → us ≡ overlay xs 64 (part bs 26 4) → vs ≡ overlay us 71 (part bs 30 1)
     → zs ≡ overlay vs 83 (part bs 31 13) → zs ≡ laid (take 3 (drop 5 instrument_places)) (values (take 3 (drop 5 instrument_rows)) bs) xs
@@ -243,12 +243,6 @@ unfolding laid_from
 lay-arm k bs xs e p = rw e p
 
 -- ---- and back, from a record's places to a message's
-
-pub long-back : (bs xs : List ℕ) (at to : ℕ) {zs : List ℕ} → to + 20 ≤ length xs
-    → zs ≡ overlay xs to (bytes_for (long_numbers_rows to) (long_numbers_fields (long_numbers_of (values (long_numbers_rows at) bs))))
-    → zs ≡ laid (long_numbers_rows to) (values (long_places at) bs) xs
-unfolding laid values
-long-back bs xs at to h e = e ∙ long-laid xs to (long_numbers_of (values (long_numbers_rows at) bs)) h
 
 pub end_back : (bs xs : List ℕ) {v : ℕ} {us zs : List ℕ} → Lent bs → length bs ≡ record_size → us ≡ overlay xs 0 (part bs 0 1) → v ≡ be (part bs 16 8)
     → zs ≡ overlay us 1 (chars_then_spaces 20 v) → zs ≡ laid (letter_place ∷ end_of_replay_rows) (values (letter_place ∷ end_of_replay_places) bs) xs

@@ -14,19 +14,16 @@ use Rattle.field.proofs.Bools.{both_left, both_right}
 use Rattle.field.proofs.Same.{test-same}
 use Rattle.message.specs.Layout.{values, keeps_all, numbered}
 use Rattle.message.specs.Feed.{Letter}
-use Rattle.message.specs.Letters.{Content, letter_in, letter_for, unlisted, short_quote_of, short_quote_fields, short_side_of, short_side_fields, fields_of}
+use Rattle.message.specs.Letters.{Content, letter_in, letter_for, unlisted, fields_of}
 use Rattle.message.specs.Message.{keeps, Typed}
-use Rattle.message.specs.declared.Side.{Side}
-use Rattle.message.specs.declared.Side.TheVariants.{Bid, Ask}
 use Rattle.message.specs.declared.Message.{Message}
 use Rattle.message.specs.declared.Message.TheVariants as message
 use Rattle.message.specs.declared.Texts.{Texts}
-use Rattle.message.proofs.Amounts.{long-back}
 use Rattle.message.proofs.Layouts.{read-as-numbers}
 use Rattle.message.proofs.Puts.{twenty}
 use Rattle.message.proofs.Feeds.{found, code-found}
 use Rattle.message.proofs.Typed.{inside, values-fit}
-use Rattle.record.specs.Places.{record_size, places_for, short_quote_places, short_side_places, record_letters}
+use Rattle.record.specs.Places.{record_size, places_for, record_letters}
 use Rattle.record.specs.Record.{record_bytes, held, no_record, said_by, said_of, confirmed, record_of, Roomy}
 use Rattle.record.specs.declared.Held.{Held}
 use Rattle.std.specs.Prelude.{None}
@@ -68,15 +65,6 @@ pub record Makes (l : Letter Content) (bs : List ℕ) : Type 0 where
   pub fields : fields_of (l.makes (values l.rows bs)).0 (l.makes (values l.rows bs)).1 ≡ values l.rows bs
   pub within : inside record_size l.rows ≡ true
 
--- the prices of a short form too
-short-quote-again : (bs : List ℕ) → short_quote_fields (short_quote_of (values short_quote_places bs)) ≡ values short_quote_places bs
-unfolding values
-short-quote-again bs = simp long-back
-
-short-side-again : (s : Side) (bs : List ℕ) → short_side_fields (short_side_of s (values (short_side_places s) bs)) ≡ values (short_side_places s) bs
-unfolding values
-short-side-again s bs = simp long-back
-
 -- what holds of one letter, and what of those after it
 infixr 5 ◌also◌
 abbrev pub ◌also◌ : {A B : Type 0} → A → B → A × B
@@ -89,10 +77,10 @@ record-makes c bs =
     ((λ e h. record { own = refl; code = refl; fields = refl; within = refl })
     also (λ e h. record { own = refl; code = refl; fields = refl; within = refl })
     also (λ e h. record { own = refl; code = refl; fields = refl; within = refl })
-    also (λ e h. record { own = refl; code = refl; fields = short-quote-again bs; within = refl })
     also (λ e h. record { own = refl; code = refl; fields = refl; within = refl })
-    also (λ e h. record { own = refl; code = refl; fields = short-side-again Bid bs; within = refl })
-    also (λ e h. record { own = refl; code = refl; fields = short-side-again Ask bs; within = refl })
+    also (λ e h. record { own = refl; code = refl; fields = refl; within = refl })
+    also (λ e h. record { own = refl; code = refl; fields = refl; within = refl })
+    also (λ e h. record { own = refl; code = refl; fields = refl; within = refl })
     also (λ e h. record { own = refl; code = refl; fields = refl; within = refl })
     also (λ e h. record { own = refl; code = refl; fields = refl; within = refl })
     also (λ e h. record { own = refl; code = refl; fields = refl; within = refl })

@@ -8,17 +8,17 @@ use borrow.Author.Tests.{eq-eqb, ne_eqb}
 use lib.ListN.{length, replicate}
 use Rattle.field.specs.Bytes.{part, overlay, be}
 use Rattle.field.proofs.Parts.{part_length, overlay-whole}
-use Rattle.message.specs.Layout.{price_from, values}
+use Rattle.message.specs.Layout.{price_by, price_from, values}
 use Rattle.message.specs.Feed.{Letter}
-use Rattle.message.specs.Letters.{Content, letter_in, unlisted, no_texts, short_price, short_numbers_of, texts_of}
+use Rattle.message.specs.Letters.{Content, letter_in, unlisted, no_texts, numbers_of, map_numbers, texts_of}
 use Rattle.message.specs.Test.{tested}
 use Rattle.message.specs.Message.{read_of}
-use Rattle.std.specs.Prelude.{Option}
-use Rattle.message.specs.declared.ShortNumbers.{ShortNumbers}
+use Rattle.std.specs.Prelude.{Option, option_map}
+use Rattle.message.proofs.Amounts.{by-from}
 use Rattle.message.specs.declared.Message.{Message}
 use Rattle.message.specs.declared.Texts.{Texts}
 use Rattle.message.proofs.Feeds.{found}
-use Rattle.record.specs.Places.{record_size, short_places, instrument_places, record_letters}
+use Rattle.record.specs.Places.{record_size, low_places, instrument_places, record_letters}
 use Rattle.record.specs.Record.{held, no_record, said_by, record_of, answered, read_to, read_answer, write_answer}
 use Rattle.record.specs.declared.Held.{Held}
 use Rattle.record.proofs.Typed.{◌also◌}
@@ -29,14 +29,15 @@ use Rattle.message.specs.declared.Refusal.{Refusal}
 
 -- ---- what the fields say
 
-pub short-said : (bs : List ℕ) (at : ℕ) {market pennies size customer professional : ℕ} {price : Option ℕ} → market ≡ be (part bs (at + 2) 2)
-    → pennies ≡ be (part bs (at + 6) 2) → price ≡ short_price (price_from pennies) → size ≡ be (part bs (at + 10) 2)
-    → customer ≡ be (part bs (at + 14) 2) → professional ≡ be (part bs (at + 18) 2)
-    → ◌≡◌ {A = ShortNumbers} (record { market = market; price = price; size = size; customer = customer; professional = professional })
-    (short_numbers_of (values (short_places at) bs))
+-- the numbers of a side, of w bytes each; f is the number that each x is
+pub numbers-said : {T : Type 0} (f : T → ℕ) (w low : ℕ) (bs : List ℕ) {market x size customer professional : T} {price : Option T} → f market ≡ be (part bs low w)
+    → f x ≡ be (part bs (low + 4) w) → price ≡ price_by f x → f size ≡ be (part bs (low + 8) w) → f customer ≡ be (part bs (low + 12) w)
+    → f professional ≡ be (part bs (low + 16) w)
+    → map_numbers f (record { market = market; price = price; size = size; customer = customer; professional = professional })
+    ≡ numbers_of (values (low_places w low) bs)
 unfolding values
-short-said bs at e f p g h j i =
-    record { market = e i; price = (p ∙ ap (λ (n : ℕ). short_price (price_from n)) f) i; size = g i; customer = h i; professional = j i }
+numbers-said f w low bs {x = x} a b p c d e i =
+    record { market = a i; price = (ap (option_map f) p ∙ by-from f x ∙ ap price_from b) i; size = c i; customer = d i; professional = e i }
 
 pub texts-copied : (bs : List ℕ) {a b c : List ℕ} → record_size ≤ length bs → a ≡ overlay (replicate 8 0) 0 (part bs 75 8) → b ≡ overlay (replicate 13 0) 0 (part bs 83 13)
     → c ≡ overlay (replicate 16 0) 0 (part bs 96 16) → ◌≡◌ {A = Texts} (record { symbol = a; underlying = b; reserved = c }) (texts_of (values instrument_places bs))

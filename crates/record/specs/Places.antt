@@ -1,7 +1,7 @@
 -- The record of a message in bytes: where each field stands, the same places for all letters.
 -- Byte 0 is the letter; the rows are a letter's fields after it, in the order of the feed's own layout.
 -- Assumes nothing.
-use Rattle.std.specs.Prelude.{ℕ, ◌+◌, List, [], ◌∷◌, ◌++◌}
+use Rattle.std.specs.Prelude.{ℕ, ◌+◌, ◌-◌, List, [], ◌∷◌, ◌++◌}
 use Rattle.message.specs.Layout.{Row, row, binary, bytes, price}
 use Rattle.message.specs.Feed.{Letter}
 use Rattle.message.specs.Letters.{Content, anything, letter_for, system_event_letter, directory_letter, trading_action_letter, short_quote_letter, long_quote_letter, short_side_letter, long_side_letter, end_of_replay_letter}
@@ -40,15 +40,15 @@ abbrev pub side_at : Side → ℕ
 side_at Bid = 24
 side_at Ask = 44
 
--- a side has five numbers of four bytes: market, price, size, customer, professional
-abbrev pub long_places : ℕ → List Row
-long_places at = number at 4 ∷ price_place (at + 4) 4 ∷ number (at + 8) 4 ∷ number (at + 12) 4 ∷ number (at + 16) 4 ∷ []
+-- a side has five places of four bytes: market, price, size, customer, professional; each number of w bytes stands in the low w of its place, so that
+-- those of a short quote are the same number in all four
+abbrev pub low_places : ℕ → ℕ → List Row
+low_places w low = number low w ∷ price_place (low + 4) w ∷ number (low + 8) w ∷ number (low + 12) w ∷ number (low + 16) w ∷ []
 
--- those of a short quote stand in the two low bytes of each, and below 65,536 they are the same number
-abbrev pub short_places : ℕ → List Row
-short_places at = number (at + 2) 2 ∷ price_place (at + 6) 2 ∷ number (at + 10) 2 ∷ number (at + 14) 2 ∷ number (at + 18) 2 ∷ []
+abbrev pub side_places : ℕ → ℕ → List Row
+side_places w at = low_places w (at + (4 - w))
 
--- and the two high bytes of each are 0
+-- and the two high bytes of each are 0 in a short quote
 abbrev pub high_places : ℕ → List Row
 high_places at = number at 2 ∷ number (at + 4) 2 ∷ number (at + 8) 2 ∷ number (at + 12) 2 ∷ number (at + 16) 2 ∷ []
 
@@ -83,17 +83,24 @@ directory_places = stamp_places ++ instrument_places
 abbrev pub head_places : List Row
 head_places = stamp_places ++ (id_place ∷ code_place ∷ [])
 
+-- a quote in numbers of w bytes: both of its sides, or one
+abbrev pub whole_quote_places : ℕ → List Row
+whole_quote_places w = head_places ++ (side_places w (side_at Bid) ++ side_places w (side_at Ask))
+
+abbrev pub one_side_places : ℕ → Side → List Row
+one_side_places w side = head_places ++ side_places w (side_at side)
+
 abbrev pub short_quote_places : List Row
-short_quote_places = head_places ++ (short_places (side_at Bid) ++ short_places (side_at Ask))
+short_quote_places = whole_quote_places 2
 
 abbrev pub long_quote_places : List Row
-long_quote_places = head_places ++ (long_places (side_at Bid) ++ long_places (side_at Ask))
+long_quote_places = whole_quote_places 4
 
 abbrev pub short_side_places : Side → List Row
-short_side_places side = head_places ++ short_places (side_at side)
+short_side_places = one_side_places 2
 
 abbrev pub long_side_places : Side → List Row
-long_side_places side = head_places ++ long_places (side_at side)
+long_side_places = one_side_places 4
 
 abbrev pub end_of_replay_places : List Row
 end_of_replay_places = number 16 8 ∷ []

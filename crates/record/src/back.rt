@@ -1,18 +1,20 @@
 // A message's bytes laid straight from its record, and what is asked of the record before that, where it lies.
-ghost use Rattle.std.specs.Prelude.{◌≡◌, ◌&&◌, ◌∷◌, ◌+◌, ◌≤◌, length, take, drop};
+ghost use Rattle.std.specs.Prelude.{◌≡◌, ◌&&◌, ◌∷◌, ◌+◌, ◌*◌, ◌≤◌, length, take, drop};
 ghost use Rattle.field.specs.Bytes.{part, overlay, be};
 ghost use Rattle.field.specs.Limits.{time_in_range};
 ghost use Rattle.field.specs.Text.{every, is_zero};
 ghost use Rattle.message.specs.Layout.{values, keeps_all};
-ghost use Rattle.message.specs.Letters.{letters, letter_in, listed, conditions, end_of_replay_rows, stamp_rows, instrument_rows, directory_rows, quote_rows, system_event_rows, short_numbers_rows, short_quote_rows, long_quote_rows, short_side_rows, long_side_rows};
-ghost use Rattle.record.specs.Places.{record_size, letter_place, stamp_places, instrument_places, directory_places, end_of_replay_places, head_places, system_event_places, short_places, high_places, short_quote_places, long_quote_places, short_side_places, long_side_places, record_letters};
+ghost use Rattle.message.specs.Letters.{letters, letter_in, listed, conditions, end_of_replay_rows, stamp_rows, instrument_rows, directory_rows, quote_rows, system_event_rows, numbers_rows, whole_quote_rows, one_side_rows};
+ghost use Rattle.record.specs.Places.{record_size, letter_place, stamp_places, instrument_places, directory_places, end_of_replay_places, head_places, system_event_places, side_places, high_places, whole_quote_places, one_side_places, record_letters};
 ghost use Rattle.record.specs.Record.{laid, laid_back, is_own, clear};
 
 use crate::RECORD_SIZE;
 use field::{limits, text};
+use message::width::Width;
 use message::{Side, codes, entry, numbers};
 
 // ---- the fields, each moved to its place in the message
+// They are the moves of `wire` the other way. One function of both would be handed each move's two places and its width, which is all that these say.
 
 // The letter and the stamp.
 fn stamp(kept: &[u8; RECORD_SIZE], out: &mut [u8])
@@ -34,15 +36,22 @@ fn head(kept: &[u8; RECORD_SIZE], out: &mut [u8])
     field::carry::<1>(kept, 1, out, 15);
 }
 
-fn short(kept: &[u8], at: usize, out: &mut [u8], to: usize)
-    requires { (at + 20 ≤ length kept.now) × (to + 10 ≤ length out.old) }
-    ensures { out.new ≡ laid (short_numbers_rows to) (values (short_places at) kept.now) out.old }
+// The numbers of a side, from the low bytes of each place of four. Those of four bytes fill their places, and go together.
+fn numbers<T: Width>(kept: &[u8], at: usize, out: &mut [u8], to: usize)
+    requires { (at + 20 ≤ length kept.now) × (to + 5 * T.width ≤ length out.old) }
+    ensures { out.new ≡ laid (numbers_rows T.width T.form.keeps to) (values (side_places T.width at) kept.now) out.old }
 {
-    field::carry::<2>(kept, at + 2, out, to);
-    field::carry::<2>(kept, at + 6, out, to + 2);
-    field::carry::<2>(kept, at + 10, out, to + 4);
-    field::carry::<2>(kept, at + 14, out, to + 6);
-    field::carry::<2>(kept, at + 18, out, to + 8);
+    let size = T::size();
+    if size == 4 {
+        numbers::carry_long(kept, at, out, to);
+        return;
+    }
+    let low = at + (4 - size);
+    field::write::<T>(out, to, field::read::<T>(kept, low));
+    field::write::<T>(out, to + size, field::read::<T>(kept, low + 4));
+    field::write::<T>(out, to + 2 * size, field::read::<T>(kept, low + 8));
+    field::write::<T>(out, to + 3 * size, field::read::<T>(kept, low + 12));
+    field::write::<T>(out, to + 4 * size, field::read::<T>(kept, low + 16));
 }
 
 fn system_event(kept: &[u8; RECORD_SIZE], out: &mut [u8])
@@ -53,40 +62,22 @@ fn system_event(kept: &[u8; RECORD_SIZE], out: &mut [u8])
     field::carry::<1>(kept, 1, out, 11);
 }
 
-fn short_side(kept: &[u8; RECORD_SIZE], side: Side, out: &mut [u8])
-    requires { 26 ≤ length out.old }
-    ensures { out.new ≡ laid (letter_place ∷ short_side_rows) (values (letter_place ∷ short_side_places side) kept.now) out.old }
+fn side<T: Width>(kept: &[u8; RECORD_SIZE], side: Side, out: &mut [u8])
+    requires { 16 + 5 * T.width ≤ length out.old }
+    ensures { out.new ≡ laid (letter_place ∷ one_side_rows T.width T.form.keeps) (values (letter_place ∷ one_side_places T.width side) kept.now) out.old }
 {
     let at = crate::side_at(side);
     head(kept, out);
-    short(kept, at, out, 16);
+    numbers::<T>(kept, at, out, 16);
 }
 
-fn short_quote(kept: &[u8; RECORD_SIZE], out: &mut [u8])
-    requires { 36 ≤ length out.old }
-    ensures { out.new ≡ laid (letter_place ∷ short_quote_rows) (values (letter_place ∷ short_quote_places) kept.now) out.old }
+fn quote<T: Width>(kept: &[u8; RECORD_SIZE], out: &mut [u8])
+    requires { 16 + 10 * T.width ≤ length out.old }
+    ensures { out.new ≡ laid (letter_place ∷ whole_quote_rows T.width T.form.keeps) (values (letter_place ∷ whole_quote_places T.width) kept.now) out.old }
 {
     head(kept, out);
-    short(kept, 24, out, 16);
-    short(kept, 44, out, 26);
-}
-
-fn long_side(kept: &[u8; RECORD_SIZE], side: Side, out: &mut [u8])
-    requires { 36 ≤ length out.old }
-    ensures { out.new ≡ laid (letter_place ∷ long_side_rows) (values (letter_place ∷ long_side_places side) kept.now) out.old }
-{
-    let at = crate::side_at(side);
-    head(kept, out);
-    numbers::carry_long(kept, at, out, 16);
-}
-
-fn long_quote(kept: &[u8; RECORD_SIZE], out: &mut [u8])
-    requires { 56 ≤ length out.old }
-    ensures { out.new ≡ laid (letter_place ∷ long_quote_rows) (values (letter_place ∷ long_quote_places) kept.now) out.old }
-{
-    head(kept, out);
-    numbers::carry_long(kept, 24, out, 16);
-    numbers::carry_long(kept, 44, out, 36);
+    numbers::<T>(kept, 24, out, 16);
+    numbers::<T>(kept, 44, out, 16 + 5 * T::size());
 }
 
 // Id, symbol and date of an instrument.
@@ -101,15 +92,6 @@ fn terms(kept: &[u8; RECORD_SIZE], out: &mut [u8])
     field::carry::<1>(kept, 70, out, 25);
 }
 
-fn underlying(kept: &[u8; RECORD_SIZE], out: &mut [u8])
-    requires { 63 ≤ length out.old }
-    ensures { out.new ≡ overlay out.old 31 (part kept.now 83 13) }
-{
-    field::carry::<8>(kept, 83, out, 31);
-    field::carry::<4>(kept, 91, out, 39);
-    field::carry::<1>(kept, 95, out, 43);
-}
-
 // Strike, option type and underlying.
 fn middle(kept: &[u8; RECORD_SIZE], out: &mut [u8])
     requires { 63 ≤ length out.old }
@@ -117,15 +99,7 @@ fn middle(kept: &[u8; RECORD_SIZE], out: &mut [u8])
 {
     field::carry::<4>(kept, 64, out, 26);
     field::carry::<1>(kept, 71, out, 30);
-    underlying(kept, out);
-}
-
-fn reserved(kept: &[u8; RECORD_SIZE], out: &mut [u8])
-    requires { 63 ≤ length out.old }
-    ensures { out.new ≡ overlay out.old 47 (part kept.now 96 16) }
-{
-    field::carry::<8>(kept, 96, out, 47);
-    field::carry::<8>(kept, 104, out, 55);
+    field::carry::<13>(kept, 83, out, 31);
 }
 
 // Closing type, tradable, variation and reserved.
@@ -136,7 +110,7 @@ fn marks(kept: &[u8; RECORD_SIZE], out: &mut [u8])
     field::carry::<1>(kept, 72, out, 44);
     field::carry::<1>(kept, 73, out, 45);
     field::carry::<1>(kept, 74, out, 46);
-    reserved(kept, out);
+    field::carry::<16>(kept, 96, out, 47);
 }
 
 fn directory(kept: &[u8; RECORD_SIZE], out: &mut [u8])
@@ -167,12 +141,12 @@ pub fn lay(letter: u8, kept: &[u8; RECORD_SIZE], out: &mut [u8])
         b'S' => system_event(kept, out),
         b'm' => directory(kept, out),
         b'H' => head(kept, out),
-        b'q' => short_quote(kept, out),
-        b'Q' => long_quote(kept, out),
-        b'b' => short_side(kept, Side::Bid, out),
-        b'a' => short_side(kept, Side::Ask, out),
-        b'B' => long_side(kept, Side::Bid, out),
-        b'A' => long_side(kept, Side::Ask, out),
+        b'q' => quote::<u16>(kept, out),
+        b'Q' => quote::<u32>(kept, out),
+        b'b' => side::<u16>(kept, Side::Bid, out),
+        b'a' => side::<u16>(kept, Side::Ask, out),
+        b'B' => side::<u32>(kept, Side::Bid, out),
+        b'A' => side::<u32>(kept, Side::Ask, out),
         _ => end_of_replay(kept, out),
     }
 }

@@ -1,12 +1,16 @@
 // What the fields of a record's bytes say, by their letter: one reader for each kind.
 ghost use Rattle.std.specs.Prelude.{◌≡◌, ◌+◌, ◌≤◌, length};
 ghost use Rattle.message.specs.Layout.{values};
-ghost use Rattle.message.specs.Letters.{letter_in, no_texts, stamp_of, short_numbers_of, instrument_of, texts_of, system_event_letter, directory_letter, trading_action_letter, short_quote_letter, long_quote_letter, short_side_letter, long_side_letter, end_of_replay_letter};
-ghost use Rattle.record.specs.Places.{record_size, stamp_places, short_places, system_event_places, instrument_places, directory_places, head_places, short_quote_places, long_quote_places, short_side_places, long_side_places, end_of_replay_places, record_letter, record_letters};
+ghost use Rattle.message.specs.Letters.{letter_in, no_texts, stamp_of, numbers_of, map_numbers, instrument_of, texts_of, system_event_letter, directory_letter, trading_action_letter, quote_letter, side_letter, end_of_replay_letter};
+ghost use Rattle.record.specs.Places.{record_size, stamp_places, side_places, system_event_places, instrument_places, directory_places, head_places, whole_quote_places, one_side_places, end_of_replay_places, record_letter, record_letters};
 ghost use Rattle.record.specs.Record.{held, said_by};
 
 use crate::{Held, RECORD_SIZE};
-use message::{Directory, EndOfReplay, Instrument, LongQuote, LongSide, Message, ShortNumbers, ShortQuote, ShortSide, Side, Stamp, SystemEvent, Texts, TradingAction, numbers, prices};
+use message::width::Width;
+use message::{
+    Directory, EndOfReplay, Instrument, Message, OneSide, Quote, Side, SideNumbers, Stamp,
+    SystemEvent, Texts, TradingAction, prices,
+};
 
 fn stamp(bytes: &[u8; RECORD_SIZE]) -> Stamp
     ensures { result ≡ stamp_of (values stamp_places bytes.now) }
@@ -17,17 +21,18 @@ fn stamp(bytes: &[u8; RECORD_SIZE]) -> Stamp
     }
 }
 
-// The numbers of a short side, from the two low bytes of each place.
-fn short(bytes: &[u8], at: usize) -> ShortNumbers
+// The numbers of a side, from the low bytes of each place of four.
+fn numbers<T: Width>(bytes: &[u8], at: usize) -> SideNumbers<T>
     requires { at + 20 ≤ length bytes.now }
-    ensures { result ≡ short_numbers_of (values (short_places at) bytes.now) }
+    ensures { map_numbers T.number result ≡ numbers_of (values (side_places T.width at) bytes.now) }
 {
-    ShortNumbers {
-        market: field::read::<u16>(bytes, at + 2),
-        price: prices::short(field::read::<u16>(bytes, at + 6)),
-        size: field::read::<u16>(bytes, at + 10),
-        customer: field::read::<u16>(bytes, at + 14),
-        professional: field::read::<u16>(bytes, at + 18),
+    let low = at + (4 - T::size());
+    SideNumbers {
+        market: field::read::<T>(bytes, low),
+        price: prices::price(field::read::<T>(bytes, low + 4)),
+        size: field::read::<T>(bytes, low + 8),
+        customer: field::read::<T>(bytes, low + 12),
+        professional: field::read::<T>(bytes, low + 16),
     }
 }
 
@@ -98,51 +103,27 @@ fn trading_action(bytes: &[u8; RECORD_SIZE]) -> Held
     }))
 }
 
-fn short_quote(bytes: &[u8; RECORD_SIZE]) -> Held
-    ensures { result ≡ said_by (record_letter short_quote_letter short_quote_places) bytes.now }
+fn quote<T: Width>(bytes: &[u8; RECORD_SIZE]) -> Held
+    ensures { result ≡ said_by (record_letter (quote_letter T.width T.form) (whole_quote_places T.width)) bytes.now }
 {
-    bare(Message::ShortQuote(ShortQuote {
+    bare(T::quote(Quote {
         stamp: stamp(bytes),
         id: field::read::<u32>(bytes, 4),
         condition: field::read::<u8>(bytes, 1),
-        bid: short(bytes, 24),
-        ask: short(bytes, 44),
+        bid: numbers::<T>(bytes, 24),
+        ask: numbers::<T>(bytes, 44),
     }))
 }
 
-fn long_quote(bytes: &[u8; RECORD_SIZE]) -> Held
-    ensures { result ≡ said_by (record_letter long_quote_letter long_quote_places) bytes.now }
+fn side<T: Width>(bytes: &[u8; RECORD_SIZE], side: Side) -> Held
+    ensures { result ≡ said_by (record_letter (side_letter T.width T.form side) (one_side_places T.width side)) bytes.now }
 {
-    bare(Message::LongQuote(LongQuote {
-        stamp: stamp(bytes),
-        id: field::read::<u32>(bytes, 4),
-        condition: field::read::<u8>(bytes, 1),
-        bid: numbers::long(bytes, 24),
-        ask: numbers::long(bytes, 44),
-    }))
-}
-
-fn short_side(bytes: &[u8; RECORD_SIZE], side: Side) -> Held
-    ensures { result ≡ said_by (record_letter (short_side_letter side) (short_side_places side)) bytes.now }
-{
-    bare(Message::ShortSide(ShortSide {
+    bare(T::side(OneSide {
         stamp: stamp(bytes),
         id: field::read::<u32>(bytes, 4),
         condition: field::read::<u8>(bytes, 1),
         side,
-        numbers: short(bytes, crate::side_at(side)),
-    }))
-}
-
-fn long_side(bytes: &[u8; RECORD_SIZE], side: Side) -> Held
-    ensures { result ≡ said_by (record_letter (long_side_letter side) (long_side_places side)) bytes.now }
-{
-    bare(Message::LongSide(LongSide {
-        stamp: stamp(bytes),
-        id: field::read::<u32>(bytes, 4),
-        condition: field::read::<u8>(bytes, 1),
-        side,
-        numbers: numbers::long(bytes, crate::side_at(side)),
+        numbers: numbers::<T>(bytes, crate::side_at(side)),
     }))
 }
 
@@ -162,12 +143,12 @@ pub fn message(letter: u8, bytes: &[u8; RECORD_SIZE]) -> Held
         b'S' => system_event(bytes),
         b'm' => directory(bytes),
         b'H' => trading_action(bytes),
-        b'q' => short_quote(bytes),
-        b'Q' => long_quote(bytes),
-        b'b' => short_side(bytes, Side::Bid),
-        b'a' => short_side(bytes, Side::Ask),
-        b'B' => long_side(bytes, Side::Bid),
-        b'A' => long_side(bytes, Side::Ask),
+        b'q' => quote::<u16>(bytes),
+        b'Q' => quote::<u32>(bytes),
+        b'b' => side::<u16>(bytes, Side::Bid),
+        b'a' => side::<u16>(bytes, Side::Ask),
+        b'B' => side::<u32>(bytes, Side::Bid),
+        b'A' => side::<u32>(bytes, Side::Ask),
         b'M' => end_of_replay(bytes),
         _ => crate::none(),
     }

@@ -1,12 +1,13 @@
 // The record of a message laid straight from its bytes, which have passed their test.
-ghost use Rattle.std.specs.Prelude.{◌≡◌, ◌∷◌, ◌+◌, ◌≤◌, length, take, drop, get_or};
+ghost use Rattle.std.specs.Prelude.{◌≡◌, ◌∷◌, ◌+◌, ◌*◌, ◌≤◌, length, take, drop, get_or};
 ghost use Rattle.field.specs.Bytes.{part, overlay};
 ghost use Rattle.message.specs.Layout.{values};
-ghost use Rattle.message.specs.Letters.{letters, letter_in, end_of_replay_rows, stamp_rows, instrument_rows, directory_rows, quote_rows, system_event_rows, short_numbers_rows, short_quote_rows, long_quote_rows, short_side_rows, long_side_rows};
-ghost use Rattle.record.specs.Places.{record_size, letter_place, stamp_places, instrument_places, directory_places, end_of_replay_places, head_places, system_event_places, short_places, short_quote_places, long_quote_places, short_side_places, long_side_places};
+ghost use Rattle.message.specs.Letters.{letters, letter_in, end_of_replay_rows, stamp_rows, instrument_rows, directory_rows, quote_rows, system_event_rows, numbers_rows, whole_quote_rows, one_side_rows};
+ghost use Rattle.record.specs.Places.{record_size, letter_place, stamp_places, instrument_places, directory_places, end_of_replay_places, head_places, system_event_places, side_places, whole_quote_places, one_side_places};
 ghost use Rattle.record.specs.Record.{laid, laid_from};
 ghost use Rattle.message.specs.Feed.{Sized};
 
+use message::width::Width;
 use message::{Side, numbers};
 
 // The letter and the stamp.
@@ -29,15 +30,22 @@ fn head(bytes: &[u8], out: &mut [u8])
     field::carry::<1>(bytes, 15, out, 1);
 }
 
-fn short(bytes: &[u8], from: usize, out: &mut [u8], at: usize)
-    requires { (from + 10 ≤ length bytes.now) × (at + 20 ≤ length out.old) }
-    ensures { out.new ≡ laid (short_places at) (values (short_numbers_rows from) bytes.now) out.old }
+// The numbers of a side, to the low bytes of each place of four. Those of four bytes fill their places, and go together.
+fn numbers<T: Width>(bytes: &[u8], from: usize, out: &mut [u8], at: usize)
+    requires { (from + 5 * T.width ≤ length bytes.now) × (at + 20 ≤ length out.old) }
+    ensures { out.new ≡ laid (side_places T.width at) (values (numbers_rows T.width T.form.keeps from) bytes.now) out.old }
 {
-    field::carry::<2>(bytes, from, out, at + 2);
-    field::carry::<2>(bytes, from + 2, out, at + 6);
-    field::carry::<2>(bytes, from + 4, out, at + 10);
-    field::carry::<2>(bytes, from + 6, out, at + 14);
-    field::carry::<2>(bytes, from + 8, out, at + 18);
+    let size = T::size();
+    if size == 4 {
+        numbers::carry_long(bytes, from, out, at);
+        return;
+    }
+    let low = at + (4 - size);
+    field::write::<T>(out, low, field::read::<T>(bytes, from));
+    field::write::<T>(out, low + 4, field::read::<T>(bytes, from + size));
+    field::write::<T>(out, low + 8, field::read::<T>(bytes, from + 2 * size));
+    field::write::<T>(out, low + 12, field::read::<T>(bytes, from + 3 * size));
+    field::write::<T>(out, low + 16, field::read::<T>(bytes, from + 4 * size));
 }
 
 fn system_event(bytes: &[u8], out: &mut [u8])
@@ -48,40 +56,22 @@ fn system_event(bytes: &[u8], out: &mut [u8])
     field::carry::<1>(bytes, 11, out, 1);
 }
 
-fn short_side(bytes: &[u8], side: Side, out: &mut [u8])
-    requires { (26 ≤ length bytes.now) × (record_size ≤ length out.old) }
-    ensures { out.new ≡ laid (letter_place ∷ short_side_places side) (values (letter_place ∷ short_side_rows) bytes.now) out.old }
+fn side<T: Width>(bytes: &[u8], side: Side, out: &mut [u8])
+    requires { (16 + 5 * T.width ≤ length bytes.now) × (record_size ≤ length out.old) }
+    ensures { out.new ≡ laid (letter_place ∷ one_side_places T.width side) (values (letter_place ∷ one_side_rows T.width T.form.keeps) bytes.now) out.old }
 {
     let at = crate::side_at(side);
     head(bytes, out);
-    short(bytes, 16, out, at);
+    numbers::<T>(bytes, 16, out, at);
 }
 
-fn short_quote(bytes: &[u8], out: &mut [u8])
-    requires { (36 ≤ length bytes.now) × (record_size ≤ length out.old) }
-    ensures { out.new ≡ laid (letter_place ∷ short_quote_places) (values (letter_place ∷ short_quote_rows) bytes.now) out.old }
+fn quote<T: Width>(bytes: &[u8], out: &mut [u8])
+    requires { (16 + 10 * T.width ≤ length bytes.now) × (record_size ≤ length out.old) }
+    ensures { out.new ≡ laid (letter_place ∷ whole_quote_places T.width) (values (letter_place ∷ whole_quote_rows T.width T.form.keeps) bytes.now) out.old }
 {
     head(bytes, out);
-    short(bytes, 16, out, 24);
-    short(bytes, 26, out, 44);
-}
-
-fn long_side(bytes: &[u8], side: Side, out: &mut [u8])
-    requires { (36 ≤ length bytes.now) × (record_size ≤ length out.old) }
-    ensures { out.new ≡ laid (letter_place ∷ long_side_places side) (values (letter_place ∷ long_side_rows) bytes.now) out.old }
-{
-    let at = crate::side_at(side);
-    head(bytes, out);
-    numbers::carry_long(bytes, 16, out, at);
-}
-
-fn long_quote(bytes: &[u8], out: &mut [u8])
-    requires { (56 ≤ length bytes.now) × (record_size ≤ length out.old) }
-    ensures { out.new ≡ laid (letter_place ∷ long_quote_places) (values (letter_place ∷ long_quote_rows) bytes.now) out.old }
-{
-    head(bytes, out);
-    numbers::carry_long(bytes, 16, out, 24);
-    numbers::carry_long(bytes, 36, out, 44);
+    numbers::<T>(bytes, 16, out, 24);
+    numbers::<T>(bytes, 16 + 5 * T::size(), out, 44);
 }
 
 // Id, symbol and date of an instrument.
@@ -95,15 +85,6 @@ fn terms(bytes: &[u8], out: &mut [u8])
     field::carry::<1>(bytes, 25, out, 70);
 }
 
-fn underlying(bytes: &[u8], out: &mut [u8])
-    requires { (63 ≤ length bytes.now) × (record_size ≤ length out.old) }
-    ensures { out.new ≡ overlay out.old 83 (part bytes.now 31 13) }
-{
-    field::carry::<8>(bytes, 31, out, 83);
-    field::carry::<4>(bytes, 39, out, 91);
-    field::carry::<1>(bytes, 43, out, 95);
-}
-
 // Strike, option type and underlying.
 fn middle(bytes: &[u8], out: &mut [u8])
     requires { (63 ≤ length bytes.now) × (record_size ≤ length out.old) }
@@ -111,15 +92,7 @@ fn middle(bytes: &[u8], out: &mut [u8])
 {
     field::carry::<4>(bytes, 26, out, 64);
     field::carry::<1>(bytes, 30, out, 71);
-    underlying(bytes, out);
-}
-
-fn reserved(bytes: &[u8], out: &mut [u8])
-    requires { (63 ≤ length bytes.now) × (record_size ≤ length out.old) }
-    ensures { out.new ≡ overlay out.old 96 (part bytes.now 47 16) }
-{
-    field::carry::<8>(bytes, 47, out, 96);
-    field::carry::<8>(bytes, 55, out, 104);
+    field::carry::<13>(bytes, 31, out, 83);
 }
 
 // Closing type, tradable, variation and reserved.
@@ -129,7 +102,7 @@ fn marks(bytes: &[u8], out: &mut [u8])
 {
     field::carry::<2>(bytes, 44, out, 72);
     field::carry::<1>(bytes, 46, out, 74);
-    reserved(bytes, out);
+    field::carry::<16>(bytes, 47, out, 96);
 }
 
 fn directory(bytes: &[u8], out: &mut [u8])
@@ -160,12 +133,12 @@ pub fn lay(bytes: &[u8], out: &mut [u8])
         b'S' => system_event(bytes, out),
         b'm' => directory(bytes, out),
         b'H' => head(bytes, out),
-        b'q' => short_quote(bytes, out),
-        b'Q' => long_quote(bytes, out),
-        b'b' => short_side(bytes, Side::Bid, out),
-        b'a' => short_side(bytes, Side::Ask, out),
-        b'B' => long_side(bytes, Side::Bid, out),
-        b'A' => long_side(bytes, Side::Ask, out),
+        b'q' => quote::<u16>(bytes, out),
+        b'Q' => quote::<u32>(bytes, out),
+        b'b' => side::<u16>(bytes, Side::Bid, out),
+        b'a' => side::<u16>(bytes, Side::Ask, out),
+        b'B' => side::<u32>(bytes, Side::Bid, out),
+        b'A' => side::<u32>(bytes, Side::Ask, out),
         _ => end_of_replay(bytes, out),
     }
 }

@@ -11,10 +11,9 @@ use Rattle.field.specs.Bytes.{part, digits, be}
 use Rattle.field.proofs.Parts.{part-part}
 use Rattle.field.proofs.Numbers.{value-digits}
 use Rattle.message.specs.Layout.{values, tiled, bytes_for, Fit}
-use Rattle.message.specs.Letters.{instrument_rows, instrument_fields, entry_size}
+use Rattle.message.specs.Letters.{instrument_rows, instrument_fields, entry_size, LongNumbers}
 use Rattle.message.specs.declared.Side.{Side}
 use Rattle.message.specs.declared.Side.TheVariants.{Bid, Ask}
-use Rattle.message.specs.declared.LongNumbers.{LongNumbers}
 use Rattle.message.specs.declared.Stamp.{Stamp}
 use Rattle.message.specs.declared.Directory.{Directory}
 use Rattle.message.specs.declared.TradingAction.{TradingAction}

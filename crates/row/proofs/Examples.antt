@@ -7,12 +7,11 @@ use Prim.Native.Nat.{ℕ}
 use lib.ListN.{replicate}
 use Rattle.field.specs.Bytes.{part, overlay, digits, value}
 use Rattle.message.specs.Layout.{price_from, bytes_for}
-use Rattle.message.specs.Letters.{listed, states}
+use Rattle.message.specs.Letters.{listed, states, ShortNumbers}
 use Rattle.message.specs.declared.Side.TheVariants.{Bid, Ask}
 use Rattle.std.specs.Prelude.{Some, None}
 use Rattle.std.specs.Prelude.{Option}
 use Rattle.std.specs.declared.option.Option.TheVariants as short
-use Rattle.message.specs.declared.ShortNumbers.{ShortNumbers}
 use Rattle.row.specs.Fields.{row_size, sides_of, price_of, numbers_of, side_time_of, seen_with, quoting_states, state_takes_quote}
 use Rattle.row.specs.Changes.{changed, widened, sides_changes, times_changes, quote_changes}
 use Rattle.row.specs.declared.Sides.TheVariants.{One}

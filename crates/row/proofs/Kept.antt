@@ -15,11 +15,10 @@ use Rattle.field.proofs.Bools.{both_left, both_right}
 use Rattle.field.proofs.Parts.{part-part}
 use Rattle.field.proofs.Numbers.{value-digits}
 use Rattle.message.specs.Layout.{amount, values, keeps_all, bytes_for, tiled, from, Fit}
-use Rattle.message.specs.Letters.{listed, states, conditions, stamp_rows, stamp_fields, instrument_rows, instrument_fields, entry_rows, entry_size}
+use Rattle.message.specs.Letters.{listed, states, conditions, stamp_rows, stamp_fields, instrument_rows, instrument_fields, entry_rows, entry_size, LongNumbers}
 use Rattle.message.specs.declared.Stamp.{Stamp}
 use Rattle.message.specs.declared.Side.{Side}
 use Rattle.message.specs.declared.Side.TheVariants.{Bid, Ask}
-use Rattle.message.specs.declared.LongNumbers.{LongNumbers}
 use Rattle.message.specs.declared.Directory.{Directory}
 use Rattle.message.specs.declared.TradingAction.{TradingAction}
 use Rattle.message.specs.declared.Texts.{Texts}

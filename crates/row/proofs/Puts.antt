@@ -15,11 +15,10 @@ use Rattle.field.proofs.Parts.{part_length, part-part, part-replicate, overlay-o
 use Rattle.field.proofs.Runs.{zeros-are}
 use Rattle.field.proofs.Writes.{piece, run-joined}
 use Rattle.message.specs.Layout.{price_from, bytes_for, values}
-use Rattle.message.specs.Letters.{listed, states, conditions, stamp_rows, stamp_fields, long_numbers_rows, long_numbers_fields, instrument_rows, instrument_fields}
+use Rattle.message.specs.Letters.{listed, states, conditions, stamp_rows, stamp_fields, long_numbers_rows, numbers_fields, instrument_rows, instrument_fields, LongNumbers}
 use Rattle.std.specs.Prelude.{Option}
 use Rattle.message.specs.declared.Side.{Side}
 use Rattle.message.specs.declared.Side.TheVariants.{Bid, Ask}
-use Rattle.message.specs.declared.LongNumbers.{LongNumbers}
 use Rattle.message.specs.declared.Directory.{Directory}
 use Rattle.message.specs.declared.TradingAction.{TradingAction}
 use Rattle.message.specs.declared.Texts.{Texts}
@@ -88,15 +87,15 @@ action-put xs a e f = f ∙ over 96 (bytes_for stamp_rows (stamp_fields a.stamp)
 
 pub side-put : (xs : List ℕ) (side : Side) (n : LongNumbers) (seen : ℕ) {w at : ℕ} {us zs : List ℕ} → seen ≡ sides_of xs
     → w ≡ seen_with side seen → us ≡ overlay xs 54 (bytes_be 1 w) → at ≡ side_at side
-    → zs ≡ overlay us at (bytes_for (long_numbers_rows at) (long_numbers_fields n))
+    → zs ≡ overlay us at (bytes_for (long_numbers_rows at) (numbers_fields n))
     → zs ≡ changed (sides_changes (One side n) (sides_of xs)) xs
 unfolding changed sides_changes
 side-put xs side n seen s p e q f = cc
 
 pub both-put : (xs : List ℕ) (bid ask : LongNumbers) (seen : ℕ) {v w : ℕ} {us vs zs : List ℕ} → seen ≡ sides_of xs
     → v ≡ seen_with Bid seen → w ≡ seen_with Ask v → us ≡ overlay xs 54 (bytes_be 1 w)
-    → vs ≡ overlay us 56 (bytes_for (long_numbers_rows 56) (long_numbers_fields bid))
-    → zs ≡ overlay vs 76 (bytes_for (long_numbers_rows 76) (long_numbers_fields ask))
+    → vs ≡ overlay us 56 (bytes_for (long_numbers_rows 56) (numbers_fields bid))
+    → zs ≡ overlay vs 76 (bytes_for (long_numbers_rows 76) (numbers_fields ask))
     → zs ≡ changed (sides_changes (Both bid ask) (sides_of xs)) xs
 unfolding changed sides_changes
 both-put xs bid ask seen s p q e f g = cc

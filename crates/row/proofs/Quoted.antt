@@ -13,12 +13,11 @@ use Rattle.field.specs.Limits.{time_in_range, latest_time, price_in_range, price
 use Rattle.field.proofs.Parts.{part-part}
 use Rattle.field.proofs.Numbers.{value-digits}
 use Rattle.message.specs.Layout.{price_from, amount, is_price, bytes_for}
-use Rattle.message.specs.Letters.{short_price, long_numbers_rows, long_numbers_fields}
+use Rattle.message.specs.Letters.{long_numbers_rows, numbers_fields, LongNumbers}
 use Rattle.std.specs.Prelude.{Option}
 use Rattle.std.specs.Prelude.{Some, None}
 use Rattle.message.specs.declared.Side.{Side}
 use Rattle.message.specs.declared.Side.TheVariants.{Bid, Ask}
-use Rattle.message.specs.declared.LongNumbers.{LongNumbers}
 use Rattle.message.specs.declared.Stamp.{Stamp}
 use Rattle.message.proofs.Amounts.{from-amount}
 use Rattle.row.specs.Fields.{row_size, sides_of, side_at, numbers_of, amount_of, price_of, side_time_at, side_time_of}
@@ -31,7 +30,7 @@ use Rattle.row.proofs.Exactly.{Fitting, quote-sides}
 
 -- the numbers of a side stand in a row
 abbrev pub Stands : List ℕ → Side → LongNumbers → Type 0
-Stands r side n = numbers_of side r ≡ bytes_for (long_numbers_rows (side_at side)) (long_numbers_fields n)
+Stands r side n = numbers_of side r ≡ bytes_for (long_numbers_rows (side_at side)) (numbers_fields n)
 
 -- ---- the price of numbers that stand
 
@@ -47,7 +46,7 @@ module _ (r : List ℕ) (side : Side) (n : LongNumbers) (low : price_in_range (a
   put-price p = ap price_from put-amount ∙ from-amount n.price p
 
 -- pennies in ten-thousandths: none stays none
-pub widened-amount : (x : Option ℕ) → amount (widened_price (short_price x)) ≡ ten_thousandths (amount x)
+pub widened-amount : (x : Option ℕ) → amount (widened_price x) ≡ ten_thousandths (amount x)
 widened-amount (Some n) = refl
 widened-amount None = refl
 

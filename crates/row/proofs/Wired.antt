@@ -10,22 +10,21 @@ use borrow.Author.Tests.{eq-eqb, ne_eqb, eqb-true, eqb-false}
 use lib.Dec.{eqb}
 use lib.ListN.{length, get_or, replicate}
 use Rattle.field.specs.Bytes.{part, overlay, digits, be, bytes_be, turned}
-use Rattle.field.specs.Limits.{ten_thousandths}
+use Rattle.field.specs.Limits.{price_in_range, ten_thousandths}
 use Rattle.field.proofs.Parts.{part_length, overlay-length, overlay-swap, part-after, part-before}
 use Rattle.field.proofs.Numbers.{Lent, lent-bytes, rewrites, turned-twice}
 use Rattle.field.proofs.Same.{same_fields, part-numbers, fields-same}
 use Rattle.field.proofs.Writes.{carried-run}
 use Rattle.message.specs.Layout.{price_from, bytes_for, values}
 use Rattle.message.specs.Feed.{letter_among}
-use Rattle.message.specs.Letters.{stamp_rows, stamp_fields, long_numbers_rows, long_numbers_fields, instrument_rows, instrument_fields}
+use Rattle.message.specs.Letters.{stamp_rows, stamp_fields, long_numbers_rows, numbers_fields, instrument_rows, instrument_fields, LongNumbers}
 use Rattle.message.specs.Test.{quote_letters, quote_length}
-use Rattle.message.specs.declared.LongNumbers.{LongNumbers}
 use Rattle.message.specs.declared.Side.{Side}
 use Rattle.message.specs.declared.Side.TheVariants.{Bid, Ask}
 use Rattle.message.proofs.Amounts.{amount-from}
 use Rattle.message.proofs.Layouts.{fields-run}
 use Rattle.message.proofs.Tested.{quotes, quote-none}
-use Rattle.message.proofs.Puts.{long-numbers-put}
+use Rattle.message.proofs.Puts.{numbers-put}
 use Rattle.row.specs.Fields.{row_size, side_at, side_time_at, sides_of, seen_with}
 use Rattle.row.specs.Changes.{changed, purge, directory_changes, unchanged, new_row, action_changes, sides_changes, own_changes, quote_changes}
 use Rattle.row.specs.Wire.{stamp_in, long_in, short_in, action_in, instrument_in, texts_in, directory_in, sides_in, quote_in}
@@ -80,10 +79,10 @@ pub short-wired : (xs bs : List ℕ) (at from : ℕ) {a b p d e f : ℕ} {us vs 
     → d ≡ be (part bs (from + 4) 2) → ws ≡ overlay vs (at + 8) (bytes_be 4 d)
     → e ≡ be (part bs (from + 6) 2) → ys ≡ overlay ws (at + 12) (bytes_be 4 e)
     → f ≡ be (part bs (from + 8) 2) → zs ≡ overlay ys (at + 16) (bytes_be 4 f)
-    → zs ≡ overlay xs at (bytes_for (long_numbers_rows at) (long_numbers_fields (short_in from bs)))
+    → zs ≡ overlay xs at (bytes_for (long_numbers_rows at) (numbers_fields (short_in from bs)))
 unfolding values
 short-wired xs bs at from h i e j k f l g m o n q =
-    long-numbers-put xs at (short_in from bs) (k ∙ ap ten_thousandths (j ∙ sym (amount-from (be (part bs (from + 2) 2)))) ∙ sym (widened-amount (price_from (be (part bs (from + 2) 2))))) h (rw i at e) f (rw l at g) (rw m at o) (rw n at q)
+    numbers-put 4 price_in_range xs at (short_in from bs) refl (k ∙ ap ten_thousandths (j ∙ sym (amount-from (be (part bs (from + 2) 2)))) ∙ sym (widened-amount (price_from (be (part bs (from + 2) 2))))) h (rw i at e) f (rw l at g) (rw m at o) (rw n at q)
 
 -- ---- a trading action, a directory
 
@@ -135,33 +134,33 @@ module _ (xs bs : List ℕ) (k : Lent xs) (l : Lent bs) (h : row_size ≤ length
 -- ---- the sides of a quote, the numbers first
 
 module _ (xs : List ℕ) (h : row_size ≤ length xs) (n : LongNumbers) where
-  numbers-length : (at : ℕ) → length (bytes_for (long_numbers_rows at) (long_numbers_fields n)) ≡ 20
+  numbers-length : (at : ℕ) → length (bytes_for (long_numbers_rows at) (numbers_fields n)) ≡ 20
   unfolding bytes_for digits
   numbers-length at = refl
 
   -- numbers at `at` and the sides seen may change places
   late : (at w : ℕ) → 55 ≤ at → at + 20 ≤ length xs
-      → overlay (overlay xs at (bytes_for (long_numbers_rows at) (long_numbers_fields n))) 54 (bytes_be 1 w)
-      ≡ overlay (overlay xs 54 (bytes_be 1 w)) at (bytes_for (long_numbers_rows at) (long_numbers_fields n))
+      → overlay (overlay xs at (bytes_for (long_numbers_rows at) (numbers_fields n))) 54 (bytes_be 1 w)
+      ≡ overlay (overlay xs 54 (bytes_be 1 w)) at (bytes_for (long_numbers_rows at) (numbers_fields n))
   unfolding digits
-  late at w a b = sym (overlay-swap xs 54 (bytes_be 1 w) at (bytes_for (long_numbers_rows at) (long_numbers_fields n)) a (rw (numbers-length at) b))
+  late at w a b = sym (overlay-swap xs 54 (bytes_be 1 w) at (bytes_for (long_numbers_rows at) (numbers_fields n)) a (rw (numbers-length at) b))
 
-  still : (at : ℕ) → at + 20 ≤ length xs → length (overlay xs at (bytes_for (long_numbers_rows at) (long_numbers_fields n))) ≡ length xs
-  still at b = overlay-length xs at (bytes_for (long_numbers_rows at) (long_numbers_fields n)) (rw (numbers-length at) b)
+  still : (at : ℕ) → at + 20 ≤ length xs → length (overlay xs at (bytes_for (long_numbers_rows at) (numbers_fields n))) ≡ length xs
+  still at b = overlay-length xs at (bytes_for (long_numbers_rows at) (numbers_fields n)) (rw (numbers-length at) b)
 
 side-room : (side : Side) → (55 ≤ side_at side) × (side_at side ≤ 76)
 side-room Bid = (omega arith, omega arith)
 side-room Ask = (omega arith, omega arith)
 
 pub side-late : (xs : List ℕ) (side : Side) (n : LongNumbers) (seen : ℕ) {w at : ℕ} {us zs : List ℕ} → row_size ≤ length xs → seen ≡ sides_of xs
-    → at ≡ side_at side → us ≡ overlay xs at (bytes_for (long_numbers_rows at) (long_numbers_fields n)) → w ≡ seen_with side seen → zs ≡ overlay us 54 (bytes_be 1 w)
+    → at ≡ side_at side → us ≡ overlay xs at (bytes_for (long_numbers_rows at) (numbers_fields n)) → w ≡ seen_with side seen → zs ≡ overlay us 54 (bytes_be 1 w)
     → zs ≡ changed (sides_changes (One side n) (sides_of xs)) xs
 unfolding changed sides_changes
 side-late xs side n seen {w} {at} {us} {zs} h s q f p e =
     let r = side-room side in
-    e ∙ ap (λ (u : List ℕ). overlay u 54 (bytes_be 1 w)) (f ∙ ap (λ (i : ℕ). overlay xs i (bytes_for (long_numbers_rows i) (long_numbers_fields n))) q)
+    e ∙ ap (λ (u : List ℕ). overlay u 54 (bytes_be 1 w)) (f ∙ ap (λ (i : ℕ). overlay xs i (bytes_for (long_numbers_rows i) (numbers_fields n))) q)
     ∙ late xs h n (side_at side) w r.0 (omega (arith, r.1))
-    ∙ ap (λ (v : ℕ). overlay (overlay xs 54 (bytes_be 1 v)) (side_at side) (bytes_for (long_numbers_rows (side_at side)) (long_numbers_fields n))) (p ∙ ap (seen_with side) s)
+    ∙ ap (λ (v : ℕ). overlay (overlay xs 54 (bytes_be 1 v)) (side_at side) (bytes_for (long_numbers_rows (side_at side)) (numbers_fields n))) (p ∙ ap (seen_with side) s)
 
 -- and the time between the two
 time-room : (side : Side) → (55 ≤ side_time_at side) × (side_time_at side ≤ 114)
@@ -169,7 +168,7 @@ time-room Bid = (omega arith, omega arith)
 time-room Ask = (omega arith, omega arith)
 
 pub side-timed-late : (xs : List ℕ) (side : Side) (n : LongNumbers) (seen time : ℕ) {w at : ℕ} {us vs zs : List ℕ} → row_size ≤ length xs → seen ≡ sides_of xs
-    → at ≡ side_at side → us ≡ overlay xs at (bytes_for (long_numbers_rows at) (long_numbers_fields n)) → vs ≡ overlay us (side_time_at side) (bytes_be 8 time)
+    → at ≡ side_at side → us ≡ overlay xs at (bytes_for (long_numbers_rows at) (numbers_fields n)) → vs ≡ overlay us (side_time_at side) (bytes_be 8 time)
     → w ≡ seen_with side seen → zs ≡ overlay vs 54 (bytes_be 1 w) → zs ≡ changed (own_changes (One side n) (sides_of xs) time) xs
 unfolding digits
 side-timed-late xs side n seen time {w} {at} {us} {vs} {zs} h s q f t p e =
@@ -180,7 +179,7 @@ side-timed-late xs side n seen time {w} {at} {us} {vs} {zs} h s q f t p e =
     (e ∙ ap (λ (u : List ℕ). overlay u 54 (bytes_be 1 w)) t ∙ sym (overlay-swap us 54 (bytes_be 1 w) (side_time_at side) (bytes_be 8 time) i.0 (rw l (omega (arith, i.1)))))
 
 pub both-late : (xs : List ℕ) (bid ask : LongNumbers) (seen : ℕ) {v w : ℕ} {us vs zs : List ℕ} → row_size ≤ length xs → seen ≡ sides_of xs
-    → us ≡ overlay xs 56 (bytes_for (long_numbers_rows 56) (long_numbers_fields bid)) → vs ≡ overlay us 76 (bytes_for (long_numbers_rows 76) (long_numbers_fields ask))
+    → us ≡ overlay xs 56 (bytes_for (long_numbers_rows 56) (numbers_fields bid)) → vs ≡ overlay us 76 (bytes_for (long_numbers_rows 76) (numbers_fields ask))
     → v ≡ seen_with Bid seen → w ≡ seen_with Ask v → zs ≡ overlay vs 54 (bytes_be 1 w)
     → zs ≡ changed (sides_changes (Both bid ask) (sides_of xs)) xs
 unfolding changed sides_changes
@@ -188,8 +187,8 @@ both-late xs bid ask seen {v} {w} {us} {vs} {zs} h s e f p q g =
     let l : length us ≡ length xs = ap length e ∙ still xs h bid 56 (omega arith) in
     g ∙ ap (λ (u : List ℕ). overlay u 54 (bytes_be 1 w)) f
     ∙ late us (rw l h) ask 76 w (omega arith) (rw l (omega arith))
-    ∙ ap (λ (u : List ℕ). overlay (overlay u 54 (bytes_be 1 w)) 76 (bytes_for (long_numbers_rows 76) (long_numbers_fields ask))) e
-    ∙ ap (λ (u : List ℕ). overlay u 76 (bytes_for (long_numbers_rows 76) (long_numbers_fields ask))) (late xs h bid 56 w (omega arith) (omega arith))
+    ∙ ap (λ (u : List ℕ). overlay (overlay u 54 (bytes_be 1 w)) 76 (bytes_for (long_numbers_rows 76) (numbers_fields ask))) e
+    ∙ ap (λ (u : List ℕ). overlay u 76 (bytes_for (long_numbers_rows 76) (numbers_fields ask))) (late xs h bid 56 w (omega arith) (omega arith))
     ∙ rw (q, p, s)
 
 -- ---- a quote

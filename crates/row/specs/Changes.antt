@@ -4,14 +4,12 @@ use Rattle.std.specs.Prelude.{ℕ, ◌+◌, Bool, true, ◌&&◌, ◌||◌, cond
 use Rattle.field.specs.Bytes.{overlay, bytes_be, same}
 use Rattle.field.specs.Limits.{ten_thousandths}
 use Rattle.message.specs.Layout.{bytes_for}
-use Rattle.message.specs.Letters.{stamp_rows, stamp_fields, long_numbers_rows, long_numbers_fields, instrument_rows, instrument_fields, entry_size}
+use Rattle.message.specs.Letters.{stamp_rows, stamp_fields, long_numbers_rows, numbers_fields, instrument_rows, instrument_fields, entry_size, ShortNumbers, LongNumbers}
 use Rattle.message.specs.declared.Stamp.{Stamp}
 use Rattle.message.specs.declared.Side.{Side}
 use Rattle.message.specs.declared.Side.TheVariants.{Bid, Ask}
 use Rattle.std.specs.Prelude.{Option}
 use Rattle.std.specs.declared.option.Option.TheVariants as long
-use Rattle.message.specs.declared.ShortNumbers.{ShortNumbers}
-use Rattle.message.specs.declared.LongNumbers.{LongNumbers}
 use Rattle.message.specs.declared.Instrument.{Instrument}
 use Rattle.message.specs.declared.Directory.{Directory}
 use Rattle.message.specs.declared.TradingAction.{TradingAction}
@@ -68,7 +66,7 @@ abbrev pub seen_change : ℕ → Change
 seen_change sides = change 54 1 (bytes_be 1 sides)
 
 abbrev pub numbers_change : ℕ → LongNumbers → Change
-numbers_change at n = change at 20 (bytes_for (long_numbers_rows at) (long_numbers_fields n))
+numbers_change at n = change at 20 (bytes_for (long_numbers_rows at) (numbers_fields n))
 
 -- tracking and time
 abbrev pub stamp_change : Stamp → Change

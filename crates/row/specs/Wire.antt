@@ -3,9 +3,8 @@
 use Rattle.std.specs.Prelude.{ℕ, cond, List, eqb, get_or}
 use Rattle.field.specs.Bytes.{part, be}
 use Rattle.message.specs.Layout.{values}
-use Rattle.message.specs.Letters.{stamp_rows, stamp_of, short_numbers_rows, short_numbers_of, long_numbers_rows, long_numbers_of, instrument_rows, instrument_of, texts_of, trading_action_rows, trading_action_of}
+use Rattle.message.specs.Letters.{stamp_rows, stamp_of, short_numbers_rows, numbers_of, long_numbers_rows, instrument_rows, instrument_of, texts_of, trading_action_rows, trading_action_of, LongNumbers}
 use Rattle.message.specs.declared.Stamp.{Stamp}
-use Rattle.message.specs.declared.LongNumbers.{LongNumbers}
 use Rattle.message.specs.declared.Directory.{Directory}
 use Rattle.message.specs.declared.Instrument.{Instrument}
 use Rattle.message.specs.declared.TradingAction.{TradingAction}
@@ -20,11 +19,11 @@ abbrev pub stamp_in : List ℕ → Stamp
 stamp_in bs = stamp_of (values stamp_rows bs)
 
 abbrev pub long_in : ℕ → List ℕ → LongNumbers
-long_in from bs = long_numbers_of (values (long_numbers_rows from) bs)
+long_in from bs = numbers_of (values (long_numbers_rows from) bs)
 
 -- a row keeps ten-thousandths
 abbrev pub short_in : ℕ → List ℕ → LongNumbers
-short_in from bs = widened (short_numbers_of (values (short_numbers_rows from) bs))
+short_in from bs = widened (numbers_of (values (short_numbers_rows from) bs))
 
 abbrev pub action_in : List ℕ → TradingAction
 action_in bs = trading_action_of (values trading_action_rows bs)

@@ -40,7 +40,7 @@ pub fn price(row: &[u8], side: Side) -> Option<u32>
     ensures { result ≡ price_of side row.now }
 {
     let at = side_at(side);
-    prices::long(field::read::<u32>(row, at + 4))
+    prices::price(field::read::<u32>(row, at + 4))
 }
 
 // Where the time of the latest message that set a side stands.

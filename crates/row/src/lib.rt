@@ -5,7 +5,7 @@ ghost use Rattle.std.specs.Prelude.{◌≡◌, ◌≤◌, length};
 ghost use Rattle.row.specs.Fields.{row_size, seen_with, state_takes_quote, takes_quote};
 ghost use Rattle.row.specs.Changes.{changed, purge};
 
-use message::{LongNumbers, Side, Stamp, codes};
+use message::{Side, SideNumbers, Stamp, codes};
 
 pub mod fields;
 pub mod moves;
@@ -17,9 +17,9 @@ pub const ROW_SIZE: usize = 124;
 // The side or sides that a quote sets, in ten-thousandths of a dollar.
 #[derive(Clone, Copy)]
 pub enum Sides {
-    One(Side, LongNumbers),
+    One(Side, SideNumbers<u32>),
     // The bid, then the ask.
-    Both(LongNumbers, LongNumbers),
+    Both(SideNumbers<u32>, SideNumbers<u32>),
 }
 
 // A quote of any of the six letters.

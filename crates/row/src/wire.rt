@@ -2,7 +2,7 @@
 ghost use Rattle.std.specs.Prelude.{◌≡◌, ◌+◌, ◌≤◌, length, get_or};
 ghost use Rattle.field.specs.Bytes.{part, overlay, bytes_be};
 ghost use Rattle.message.specs.Layout.{bytes_for};
-ghost use Rattle.message.specs.Letters.{stamp_rows, stamp_fields, long_numbers_rows, long_numbers_fields, instrument_rows, instrument_fields};
+ghost use Rattle.message.specs.Letters.{stamp_rows, stamp_fields, long_numbers_rows, numbers_fields, instrument_rows, instrument_fields};
 ghost use Rattle.message.specs.Test.{quote_length};
 ghost use Rattle.row.specs.Fields.{row_size, sides_of, side_time_at};
 ghost use Rattle.row.specs.Changes.{changed, directory_changes, unchanged, new_row, action_changes, own_changes, quote_changes};
@@ -39,7 +39,7 @@ fn put_times(row: &mut [u8], bytes: &[u8])
 
 fn put_short(row: &mut [u8], at: usize, bytes: &[u8], from: usize)
     requires { (at + 20 ≤ length row.old) × (from + 10 ≤ length bytes.now) }
-    ensures { row.new ≡ overlay row.old at (bytes_for (long_numbers_rows at) (long_numbers_fields (short_in from bytes.now))) }
+    ensures { row.new ≡ overlay row.old at (bytes_for (long_numbers_rows at) (numbers_fields (short_in from bytes.now))) }
 {
     field::write::<u32>(row, at, field::read::<u16>(bytes, from) as u32);
     field::write::<u32>(

@@ -11,17 +11,12 @@ use lib.ListN.{length}
 use Rattle.field.specs.Limits.{time_in_range, price_in_range, price_end}
 use Rattle.field.proofs.Bools.{both_left, both_right}
 use Rattle.message.specs.Layout.{amount, is_price, priced, price, holds, keeps_all}
-use Rattle.message.specs.Letters.{listed, anything, conditions, long_price}
+use Rattle.message.specs.Letters.{listed, anything, conditions, LongNumbers, ShortQuote, LongQuote, ShortSide, LongSide}
 use Rattle.message.specs.Message.{keeps, Typed}
 use Rattle.message.specs.declared.Message.{Message}
 use Rattle.message.specs.declared.Message.TheVariants as message
 use Rattle.std.specs.Prelude.{Option}
 use Rattle.std.specs.declared.option.Option.TheVariants as short
-use Rattle.message.specs.declared.LongNumbers.{LongNumbers}
-use Rattle.message.specs.declared.ShortQuote.{ShortQuote}
-use Rattle.message.specs.declared.LongQuote.{LongQuote}
-use Rattle.message.specs.declared.ShortSide.{ShortSide}
-use Rattle.message.specs.declared.LongSide.{LongSide}
 use Rattle.message.specs.declared.Side.{Side}
 use Rattle.message.specs.declared.Side.TheVariants.{Bid, Ask}
 use Rattle.message.specs.declared.Texts.{Texts}
@@ -67,7 +62,7 @@ long_kept n h =
     (both_right (is_price n.price) (price_in_range (amount n.price)) h, both_left (is_price n.price) (price_in_range (amount n.price)) h)
 
 -- pennies of two bytes are a price in range
-pennies-kept : (p : Option ℕ) → amount (long_price p) < 256 ^ 2 → holds (price anything) (priced (long_price p)) ≡ true
+pennies-kept : (p : Option ℕ) → amount p < 256 ^ 2 → holds (price anything) (priced p) ≡ true
     → (price_in_range (amount (widened_price p)) ≡ true) × (is_price (widened_price p) ≡ true)
 pennies-kept (short.Some n) f h =
     (le-leb (suc (n * 100)) price_end (omega arith), le-leb 1 (n * 100) (omega (arith, leb-true 1 n (both_left (leb 1 n) true h))))
@@ -76,8 +71,8 @@ pennies-kept short.None f h = (refl, refl)
 short-quote-kept : (m : ShortQuote) (t : Texts) → Typed (message.ShortQuote m) t → keeps (message.ShortQuote m) t ≡ true → QuoteKept (of_short_quote m)
 unfolding keeps keeps_all
 short-quote-kept m t f k =
-    let bid = holds (price anything) (priced (long_price m.bid.price)) in
-    let ask = holds (price anything) (priced (long_price m.ask.price)) in
+    let bid = holds (price anything) (priced m.bid.price) in
+    let ask = holds (price anything) (priced m.ask.price) in
     let r = quote-rules (time_in_range m.stamp.time) (listed conditions m.condition) bid ask k in
     record {
       condition = r.1;
@@ -96,7 +91,7 @@ long-quote-kept m t k =
 short-side-kept : (m : ShortSide) (t : Texts) → Typed (message.ShortSide m) t → keeps (message.ShortSide m) t ≡ true → QuoteKept (of_short_side m)
 unfolding keeps keeps_all
 short-side-kept m t f k =
-    let own = holds (price anything) (priced (long_price m.numbers.price)) in
+    let own = holds (price anything) (priced m.numbers.price) in
     let r = side-rules (time_in_range m.stamp.time) (listed conditions m.condition) own k in
     record { condition = r.1; time = r.0; prices = pennies-kept m.numbers.price f.1.1.1.1.1.0 r.2 }
 

@@ -1,6 +1,8 @@
 -- `message::put::message` meets its contract.
 use borrow.Author.Rules.{rules}
 use Rattle.message.specs.Message.{bytes_of}
+use Rattle.message.specs.declared.Message.TheVariants as message
+use Rattle.message.proofs.Amounts.{same-price}
 use Rattle.message.proofs.Ways.{room-for, put_as}
 use Rattle.message.proofs.put.message.Goals as goal
 
@@ -13,17 +15,17 @@ directory-requires c = room-for _ _ c.in-Directory.is c.requires
 pub trading_action-requires : goal.trading_action-requires
 trading_action-requires c = room-for _ _ c.in-TradingAction.is c.requires
 
-pub short_quote-requires : goal.short_quote-requires
-short_quote-requires c = room-for _ _ c.in-ShortQuote.is c.requires
+pub quote-requires : goal.quote-requires
+quote-requires c = room-for _ _ c.in-ShortQuote.is c.requires
 
-pub long_quote-requires : goal.long_quote-requires
-long_quote-requires c = room-for _ _ c.in-LongQuote.is c.requires
+pub quote-requires-in-LongQuote : goal.quote-requires-in-LongQuote
+quote-requires-in-LongQuote c = room-for _ _ c.in-LongQuote.is c.requires
 
-pub short_side-requires : goal.short_side-requires
-short_side-requires c = room-for _ _ c.in-ShortSide.is c.requires
+pub side-requires : goal.side-requires
+side-requires c = room-for _ _ c.in-ShortSide.is c.requires
 
-pub long_side-requires : goal.long_side-requires
-long_side-requires c = room-for _ _ c.in-LongSide.is c.requires
+pub side-requires-in-LongSide : goal.side-requires-in-LongSide
+side-requires-in-LongSide c = room-for _ _ c.in-LongSide.is c.requires
 
 pub end_of_replay-requires : goal.end_of_replay-requires
 end_of_replay-requires c = room-for _ _ c.in-EndOfReplay.is c.requires
@@ -42,19 +44,19 @@ returns-in-TradingAction c = search (put_as, rules)
 
 pub returns-in-ShortQuote : goal.returns-in-ShortQuote
 unfolding bytes_of
-returns-in-ShortQuote c = search (put_as, rules)
+returns-in-ShortQuote c = put_as (message.ShortQuote c.in-ShortQuote.m) c.args.texts c.args.out.now c.in-ShortQuote.is (rw (same-price c.in-ShortQuote.m.bid.price, same-price c.in-ShortQuote.m.ask.price) at c.quote.ensures)
 
 pub returns-in-LongQuote : goal.returns-in-LongQuote
 unfolding bytes_of
-returns-in-LongQuote c = search (put_as, rules)
+returns-in-LongQuote c = put_as (message.LongQuote c.in-LongQuote.m) c.args.texts c.args.out.now c.in-LongQuote.is (rw (same-price c.in-LongQuote.m.bid.price, same-price c.in-LongQuote.m.ask.price) at c.quote-in-LongQuote.ensures)
 
 pub returns-in-ShortSide : goal.returns-in-ShortSide
 unfolding bytes_of
-returns-in-ShortSide c = search (put_as, rules)
+returns-in-ShortSide c = put_as (message.ShortSide c.in-ShortSide.m) c.args.texts c.args.out.now c.in-ShortSide.is (rw (same-price c.in-ShortSide.m.numbers.price) at c.side.ensures)
 
 pub returns-in-LongSide : goal.returns-in-LongSide
 unfolding bytes_of
-returns-in-LongSide c = search (put_as, rules)
+returns-in-LongSide c = put_as (message.LongSide c.in-LongSide.m) c.args.texts c.args.out.now c.in-LongSide.is (rw (same-price c.in-LongSide.m.numbers.price) at c.side-in-LongSide.ensures)
 
 pub returns-in-EndOfReplay : goal.returns-in-EndOfReplay
 unfolding bytes_of

@@ -20,29 +20,29 @@ pub head-requires : goal.head-requires
 unfolding letters letter_among
 head-requires c = back-room 72 _ _ c.in-72.is c.requires.1
 
-pub short_quote-requires : goal.short_quote-requires
+pub quote-requires : goal.quote-requires
 unfolding letters letter_among
-short_quote-requires c = back-room 113 _ _ c.in-113.is c.requires.1
+quote-requires c = back-room 113 _ _ c.in-113.is c.requires.1
 
-pub long_quote-requires : goal.long_quote-requires
+pub quote-requires-in-81 : goal.quote-requires-in-81
 unfolding letters letter_among
-long_quote-requires c = back-room 81 _ _ c.in-81.is c.requires.1
+quote-requires-in-81 c = back-room 81 _ _ c.in-81.is c.requires.1
 
-pub short_side-requires : goal.short_side-requires
+pub side-requires : goal.side-requires
 unfolding letters letter_among
-short_side-requires c = back-room 98 _ _ c.in-98.is c.requires.1
+side-requires c = back-room 98 _ _ c.in-98.is c.requires.1
 
-pub short_side-requires-in-97 : goal.short_side-requires-in-97
+pub side-requires-in-97 : goal.side-requires-in-97
 unfolding letters letter_among
-short_side-requires-in-97 c = back-room 97 _ _ c.in-97.is c.requires.1
+side-requires-in-97 c = back-room 97 _ _ c.in-97.is c.requires.1
 
-pub long_side-requires : goal.long_side-requires
+pub side-requires-in-66 : goal.side-requires-in-66
 unfolding letters letter_among
-long_side-requires c = back-room 66 _ _ c.in-66.is c.requires.1
+side-requires-in-66 c = back-room 66 _ _ c.in-66.is c.requires.1
 
-pub long_side-requires-in-65 : goal.long_side-requires-in-65
+pub side-requires-in-65 : goal.side-requires-in-65
 unfolding letters letter_among
-long_side-requires-in-65 c = back-room 65 _ _ c.in-65.is c.requires.1
+side-requires-in-65 c = back-room 65 _ _ c.in-65.is c.requires.1
 
 pub end_of_replay-requires : goal.end_of_replay-requires
 unfolding letters letter_among
@@ -64,27 +64,27 @@ returns-in-72 c = back-arm 72 _ _ _ c.in-72.is c.head.ensures
 
 pub returns-in-113 : goal.returns-in-113
 unfolding letters record_letters letter_among
-returns-in-113 c = back-arm 113 _ _ _ c.in-113.is c.short_quote.ensures
+returns-in-113 c = back-arm 113 _ _ _ c.in-113.is c.quote.ensures
 
 pub returns-in-81 : goal.returns-in-81
 unfolding letters record_letters letter_among
-returns-in-81 c = back-arm 81 _ _ _ c.in-81.is c.long_quote.ensures
+returns-in-81 c = back-arm 81 _ _ _ c.in-81.is c.quote-in-81.ensures
 
 pub returns-in-98 : goal.returns-in-98
 unfolding letters record_letters letter_among
-returns-in-98 c = back-arm 98 _ _ _ c.in-98.is c.short_side.ensures
+returns-in-98 c = back-arm 98 _ _ _ c.in-98.is c.side.ensures
 
 pub returns-in-97 : goal.returns-in-97
 unfolding letters record_letters letter_among
-returns-in-97 c = back-arm 97 _ _ _ c.in-97.is c.short_side-in-97.ensures
+returns-in-97 c = back-arm 97 _ _ _ c.in-97.is c.side-in-97.ensures
 
 pub returns-in-66 : goal.returns-in-66
 unfolding letters record_letters letter_among
-returns-in-66 c = back-arm 66 _ _ _ c.in-66.is c.long_side.ensures
+returns-in-66 c = back-arm 66 _ _ _ c.in-66.is c.side-in-66.ensures
 
 pub returns-in-65 : goal.returns-in-65
 unfolding letters record_letters letter_among
-returns-in-65 c = back-arm 65 _ _ _ c.in-65.is c.long_side-in-65.ensures
+returns-in-65 c = back-arm 65 _ _ _ c.in-65.is c.side-in-65.ensures
 
 pub returns-in_default : goal.returns-in_default
 unfolding letters record_letters letter_among

@@ -11,4 +11,4 @@ use Rattle.record.proofs.back.marks.Goals as goal
 pub returns : goal.returns
 unfolding paired
 returns c =
-    moved record_size (drop 8 instrument_places) (drop 8 instrument_rows) c.args.kept.now c.args.out.now refl (omega arith) (search rules) (_, c.carry.ensures, (_, c.carry-2.ensures, (_, c.carry-3.ensures, (_, c.reserved.ensures, refl))))
+    moved record_size (drop 8 instrument_places) (drop 8 instrument_rows) c.args.kept.now c.args.out.now refl (omega arith) (search rules) (_, c.carry.ensures, (_, c.carry-2.ensures, (_, c.carry-3.ensures, (_, c.carry-4.ensures, refl))))

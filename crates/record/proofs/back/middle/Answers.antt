@@ -11,4 +11,4 @@ use Rattle.record.proofs.back.middle.Goals as goal
 pub returns : goal.returns
 unfolding paired
 returns c =
-    moved record_size (take 3 (drop 5 instrument_places)) (take 3 (drop 5 instrument_rows)) c.args.kept.now c.args.out.now refl (omega arith) (search rules) (_, c.carry.ensures, (_, c.carry-2.ensures, (_, c.underlying.ensures, refl)))
+    moved record_size (take 3 (drop 5 instrument_places)) (take 3 (drop 5 instrument_rows)) c.args.kept.now c.args.out.now refl (omega arith) (search rules) (_, c.carry.ensures, (_, c.carry-2.ensures, (_, c.carry-3.ensures, refl)))

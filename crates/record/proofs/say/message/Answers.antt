@@ -18,27 +18,27 @@ returns-in-72 c = arm 72 _ _ c.in-72.is c.trading_action.ensures
 
 pub returns-in-113 : goal.returns-in-113
 unfolding record_letters letter_among
-returns-in-113 c = arm 113 _ _ c.in-113.is c.short_quote.ensures
+returns-in-113 c = arm 113 _ _ c.in-113.is c.quote.ensures
 
 pub returns-in-81 : goal.returns-in-81
 unfolding record_letters letter_among
-returns-in-81 c = arm 81 _ _ c.in-81.is c.long_quote.ensures
+returns-in-81 c = arm 81 _ _ c.in-81.is c.quote-in-81.ensures
 
 pub returns-in-98 : goal.returns-in-98
 unfolding record_letters letter_among
-returns-in-98 c = arm 98 _ _ c.in-98.is c.short_side.ensures
+returns-in-98 c = arm 98 _ _ c.in-98.is c.side.ensures
 
 pub returns-in-97 : goal.returns-in-97
 unfolding record_letters letter_among
-returns-in-97 c = arm 97 _ _ c.in-97.is c.short_side-in-97.ensures
+returns-in-97 c = arm 97 _ _ c.in-97.is c.side-in-97.ensures
 
 pub returns-in-66 : goal.returns-in-66
 unfolding record_letters letter_among
-returns-in-66 c = arm 66 _ _ c.in-66.is c.long_side.ensures
+returns-in-66 c = arm 66 _ _ c.in-66.is c.side-in-66.ensures
 
 pub returns-in-65 : goal.returns-in-65
 unfolding record_letters letter_among
-returns-in-65 c = arm 65 _ _ c.in-65.is c.long_side-in-65.ensures
+returns-in-65 c = arm 65 _ _ c.in-65.is c.side-in-65.ensures
 
 pub returns-in-77 : goal.returns-in-77
 unfolding record_letters letter_among
