@@ -1,6 +1,5 @@
 -- `message::entry::is_underlying` meets its contract.
 use mathlib.Core.Path.{◌≡◌}
-use native.Mathlib.Omega.{arith}
 use lib.ListN.{length}
 use borrow.Author.Rules.{rules}
 use Rattle.message.proofs.Ways.{text-whole}

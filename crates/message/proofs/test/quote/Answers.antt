@@ -1,6 +1,6 @@
 -- `message::test::quote` meets its contract.
 use borrow.Author.Rules.{rules}
-use Rattle.message.proofs.Tested.{room-head, room-time, quote-sized, quote-long, quote-time, quote-condition, quote-prices, quote-kept}
+use Rattle.message.proofs.Tested.{room-head, room-time, quote-long, quote-time, quote-condition, quote-prices, quote-kept}
 use Rattle.message.proofs.test.quote.Goals as goal
 
 pub returns-then-bytes-size : goal.returns-then-bytes-size

@@ -1,6 +1,6 @@
 -- `message::test::rarer` meets its contract.
 use borrow.Author.Rules.{rules}
-use Rattle.message.proofs.Tested.{rare-unknown, rare-long, rare-sized, rare-kept, rare-broken}
+use Rattle.message.proofs.Tested.{rare-unknown, rare-long, rare-kept, rare-broken}
 use Rattle.message.proofs.test.rarer.Goals as goal
 
 pub returns-in_default : goal.returns-in_default
