@@ -10,7 +10,7 @@ use lib.ListN.{length, length-append}
 use Rattle.field.specs.Bytes.{part, overlay, digits, bytes_be}
 use Rattle.field.specs.Decimal.{chars_then_spaces, digit_count}
 use borrow.Rule.Slice.PartMut.{put_mid}
-use Rattle.field.proofs.Parts.{part_length, part-whole, part-back, overlay-length, overlay-whole}
+use Rattle.field.proofs.Parts.{part_length, part-back, overlay-length, overlay-whole}
 use Rattle.field.proofs.Numbers.{digits-length, Lent, lent-bytes}
 use Rattle.field.proofs.Decimals.{before-length, count_most}
 use Rattle.field.proofs.Writes.{piece, run-joined}
@@ -86,9 +86,6 @@ long-carried xs bs at from k h e =
     e ∙ ap (overlay xs at) (sym (fields-run (long_numbers_rows from) bs from (refl, refl, (refl, refl, (omega arith, refl, (omega arith, refl, (omega arith, refl, tt))))) (lent-bytes bs k) h))
 
 -- ---- an instrument
-
-pub text-put : (xs ys : List ℕ) (at n : ℕ) {zs : List ℕ} → length ys ≡ n → zs ≡ overlay xs at (part ys 0 n) → zs ≡ overlay xs at ys
-text-put xs ys at n e p = p ∙ ap (overlay xs at) (part-whole ys n e)
 
 -- three marks of a byte each, side by side
 pub three-marks : (a b c : ℕ) → a < 256 → b < 256 → c < 256 → a ∷ b ∷ c ∷ [] ≡ bytes_be 1 a ++ (bytes_be 1 b ++ bytes_be 1 c)

@@ -22,7 +22,8 @@ use Rattle.message.specs.declared.Message.{Message}
 use Rattle.message.specs.declared.Refusal.{Refusal}
 use Rattle.message.specs.declared.Refusal.TheVariants.{UnknownLetter, WrongLength, BadField}
 use Rattle.std.specs.Prelude.{Result, Ok, Err, Option, Some, None}
-use Rattle.message.proofs.Layouts.{read-as-numbers, rows_in, values-in-part}
+use Rattle.std.specs.Option.{is_some}
+use Rattle.message.proofs.Layouts.{never, read-as-numbers, rows_in, values-in-part}
 use Rattle.message.proofs.Feeds.{found, unlisted_length, has-length, has-none}
 use Rattle.message.proofs.Table.{room}
 use Rattle.message.proofs.Ways.{entry-values}
@@ -73,6 +74,13 @@ module _ (c : ℕ) {x : Option ℕ} (p : x ≡ listed_length (letter_in quote_le
   pub no-quote : x ≡ None → quote_length c ≡ 0
   unfolding quote_length
   no-quote q = has-none (letter_in quote_letters c) p q
+
+  pub some-quote : is_some x ≡ true → quote_length c ≡ 0 → ⊥
+  some-quote s z = by x refl
+    where
+      by : (y : Option ℕ) → x ≡ y → ⊥
+      by (Some n) q = (is-quote q).1 ((is-quote q).0 ∙ z)
+      by None q = never (sym (ap is_some q) ∙ s)
 
 -- what each of them is: a letter of the feed, with room for its prices, and three rules
 pub record Quotes (bs : List ℕ) (c : ℕ) (l : Letter Content) : Type 0 where

@@ -4,10 +4,9 @@ use mathlib.Core.Path.{◌≡◌, refl, sym, ap, ◌∙◌}
 use mathlib.Core.Bool.{Bool, true, false, cond, ◌&&◌, ◌||◌, and-true, and_assoc}
 use mathlib.Core.List.{List}
 use Prim.Native.Nat.{ℕ, ◌≤◌, ◌<◌}
-use native.Mathlib.Omega.{arith}
 use borrow.Author.Tests.{le-leb, lt-leb}
 use lib.Dec.{eqb}
-use lib.ListN.{length, get_or, replicate}
+use lib.ListN.{length, get_or}
 use Rattle.field.specs.Bytes.{part, overlay}
 use Rattle.field.specs.Limits.{time_in_range}
 use Rattle.field.specs.Text.{is_text}
@@ -15,7 +14,7 @@ use Rattle.field.specs.Decimal.{number_before_spaces}
 use Rattle.std.specs.Prelude.{Option}
 use Rattle.std.specs.declared.option.Option.TheVariants as option
 use Rattle.field.proofs.Bools.{both_left, both_right}
-use Rattle.field.proofs.Parts.{part_length, part-whole, overlay-whole}
+use Rattle.field.proofs.Parts.{part-whole}
 use Rattle.message.specs.Layout.{Value, Row, values, keeps_all}
 use Rattle.message.specs.Feed.{Letter, Sized, fields_read, letter_read}
 use Rattle.message.specs.Letters.{Content, listed, conditions, letters, letter_in, letter_for, unlisted, no_texts, stamp_rows, stamp_of, instrument_rows, entry_rows, entry_size, instrument_of, instrument_fields, texts_of, directory_rows, directory_of, directory_fields, directory_letter, end_of_replay_rows, end_of_replay_of}
@@ -141,16 +140,6 @@ module _ (bs : List ℕ) {m : Directory} {t : Texts} {ok : Bool} (is : m ≡ dir
   pub directory-no : {r : Reading} → ok ≡ false → r ≡ refused BadField → r ≡ read_fields directory_letter (values directory_rows bs)
   unfolding read_fields fields_read
   directory-no n q = rw (← kept-directory, n) q
-
-pub texts-copied : (bs : List ℕ) {a b c : List ℕ} → entry_size ≤ length bs → a ≡ overlay (replicate 8 0) 0 (part bs 4 8) → b ≡ overlay (replicate 13 0) 0 (part bs 20 13)
-    → c ≡ overlay (replicate 16 0) 0 (part bs 36 16) → ◌≡◌ {A = Texts} (record { symbol = a; underlying = b; reserved = c }) (texts_of (values entry_rows bs))
-unfolding values
-texts-copied bs h p q r i =
-    record {
-      symbol = (p ∙ overlay-whole (replicate 8 0) (part bs 4 8) (part_length bs 4 8 (omega arith))) i;
-      underlying = (q ∙ overlay-whole (replicate 13 0) (part bs 20 13) (part_length bs 20 13 (omega arith))) i;
-      reserved = (r ∙ overlay-whole (replicate 16 0) (part bs 36 16) (part_length bs 36 16 (omega arith))) i;
-    }
 
 -- ---- the field rules
 

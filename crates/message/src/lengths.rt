@@ -71,6 +71,7 @@ pub fn length_of(letter: u8) -> Option<usize>
 pub fn length_for(message: Message) -> usize
     ensures { result ≡ (letter_for message).size }
 {
+    // A match on the variants: each has its constant, and a table would be a loop.
     match message {
         Message::SystemEvent(_) => SYSTEM_EVENT,
         Message::Directory(_) => DIRECTORY,

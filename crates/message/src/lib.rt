@@ -125,6 +125,8 @@ pub enum Refusal {
     BadField,
 }
 
+// The texts stand beside the answer, and not in it: a refusal says of them too that they are zeros (`Message.refused`, whose
+// theorem is `Verdicts.read-verdict`), and records, readers and demands speak of the texts of any bytes.
 #[derive(Clone, Copy)]
 pub struct Reading {
     pub answer: Result<Message, Refusal>,

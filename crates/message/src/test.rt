@@ -21,6 +21,7 @@ pub fn number(bytes: &[u8]) -> u64
 pub fn quote_length(letter: u8) -> Option<usize>
     ensures { result ≡ listed_length (letter_in quote_letters letter) }
 {
+    // A match on the letters, which compiles to comparisons; the table of lengths would be a loop.
     match letter {
         b'q' => Some(lengths::SHORT_QUOTE),
         b'Q' => Some(lengths::LONG_QUOTE),
@@ -74,6 +75,7 @@ fn fields_keep(letter: u8, bytes: &[u8]) -> bool
     requires { (quote_length letter ≡ 0) × Sized (letter_in letters letter) bytes.now }
     ensures { result ≡ keeps_all (letter_in letters letter).rows (values (letter_in letters letter).rows bytes.now) }
 {
+    // A function for each letter would take another table of them: the four tests differ, and a match says which is whose.
     match letter {
         b'S' => limits::time_keeps(bytes, 3) & codes::is_event(field::read::<u8>(bytes, 11)),
         b'm' => limits::time_keeps(bytes, 3) & entry::keep_bytes(&bytes[11..63]),
@@ -87,6 +89,7 @@ fn rare_length(letter: u8) -> Option<usize>
     requires { quote_length letter ≡ 0 }
     ensures { result ≡ listed_length (letter_in letters letter) }
 {
+    // A match, for the same reason.
     match letter {
         b'S' => Some(lengths::SYSTEM_EVENT),
         b'm' => Some(lengths::DIRECTORY),
@@ -124,8 +127,8 @@ fn number_of(r: Result<(), Refusal>) -> u32
     }
 }
 
-// The test of any bytes: 0 for a message, or the number of the refusal.
-// A Result here costs a record's reading an instruction: what this answers is the number that `nelqubat_read` gives to C.
+// The test of any bytes: 0 for a message, or the number of the refusal, which `nelqubat_read` gives to C. As a Result it costs the
+// reading of a record 188 instructions for 187.
 pub fn message(bytes: &[u8]) -> u32
     ensures { result ≡ tested (read_of bytes.now) }
 {

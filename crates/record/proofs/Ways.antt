@@ -2,15 +2,13 @@
 -- Assumes nothing.
 use mathlib.Core.Path.{◌≡◌, refl, sym, ap, ◌∙◌}
 use mathlib.Core.List.{List}
-use Prim.Native.Nat.{ℕ, ◌+◌, ◌≤◌}
-use native.Mathlib.Omega.{arith}
+use Prim.Native.Nat.{ℕ, ◌+◌}
 use borrow.Author.Tests.{eq-eqb, ne_eqb}
-use lib.ListN.{length, replicate}
-use Rattle.field.specs.Bytes.{part, overlay, be}
-use Rattle.field.proofs.Parts.{part_length, overlay-whole}
+use lib.ListN.{length}
+use Rattle.field.specs.Bytes.{part, be}
 use Rattle.message.specs.Layout.{price_by, price_from, values}
 use Rattle.message.specs.Feed.{Letter}
-use Rattle.message.specs.Letters.{Content, letter_in, unlisted, no_texts, numbers_of, map_numbers, texts_of}
+use Rattle.message.specs.Letters.{Content, letter_in, unlisted, no_texts, numbers_of, map_numbers}
 use Rattle.message.specs.Test.{tested}
 use Rattle.message.specs.Message.{read_of}
 use Rattle.std.specs.Prelude.{Option, option_map}
@@ -18,7 +16,7 @@ use Rattle.message.proofs.Amounts.{by-from}
 use Rattle.message.specs.declared.Message.{Message}
 use Rattle.message.specs.declared.Texts.{Texts}
 use Rattle.message.proofs.Feeds.{found}
-use Rattle.record.specs.Places.{record_size, low_places, instrument_places, record_letters}
+use Rattle.record.specs.Places.{record_size, low_places, record_letters}
 use Rattle.record.specs.Record.{held, no_record, said_by, record_of, answered, read_to, read_answer, write_answer}
 use Rattle.record.specs.declared.Held.{Held}
 use Rattle.record.proofs.Typed.{◌also◌}
@@ -38,16 +36,6 @@ pub numbers-said : {T : Type 0} (f : T → ℕ) (w low : ℕ) (bs : List ℕ) {m
 unfolding values
 numbers-said f w low bs {x = x} a b p c d e i =
     record { market = a i; price = (ap (option_map f) p ∙ by-from f x ∙ ap price_from b) i; size = c i; customer = d i; professional = e i }
-
-pub texts-copied : (bs : List ℕ) {a b c : List ℕ} → record_size ≤ length bs → a ≡ overlay (replicate 8 0) 0 (part bs 75 8) → b ≡ overlay (replicate 13 0) 0 (part bs 83 13)
-    → c ≡ overlay (replicate 16 0) 0 (part bs 96 16) → ◌≡◌ {A = Texts} (record { symbol = a; underlying = b; reserved = c }) (texts_of (values instrument_places bs))
-unfolding values
-texts-copied bs h p q r i =
-    record {
-      symbol = (p ∙ overlay-whole (replicate 8 0) (part bs 75 8) (part_length bs 75 8 (omega arith))) i;
-      underlying = (q ∙ overlay-whole (replicate 13 0) (part bs 83 13) (part_length bs 83 13 (omega arith))) i;
-      reserved = (r ∙ overlay-whole (replicate 16 0) (part bs 96 16) (part_length bs 96 16 (omega arith))) i;
-    }
 
 -- a message that has no texts, of a record that is read
 pub said-as : {A : Type 0} (says : A → Message) {x a : A} → x ≡ a → held (says x) no_texts ≡ held (says a) no_texts

@@ -136,6 +136,7 @@ pub fn lay(letter: u8, kept: &[u8; RECORD_SIZE], out: &mut [u8])
     requires { ((letter_in letters letter).size ≡ 0 → ⊥) × ((letter_in letters letter).size ≤ length out.old) }
     ensures { out.new ≡ laid_back letter kept.now out.old }
 {
+    // A match on the letter: a table of functions would stand beside the same ten lines.
     match letter {
         b'S' => system_event(kept, out),
         b'm' => directory(kept, out),
@@ -174,6 +175,7 @@ pub fn is_own(letter: u8, kept: &[u8; RECORD_SIZE]) -> bool
     requires { (letter_in letters letter).size ≡ 0 → ⊥ }
     ensures { result ≡ is_own letter kept.now }
 {
+    // Each letter has its own gaps, of one to four runs and with sides between them: one line of a match for each.
     match letter {
         b'S' => zeros(kept, 4, 4) & zeros(kept, 16, 96),
         b'm' => zeros(kept, 1, 1) & zeros(kept, 16, 48),
@@ -200,6 +202,7 @@ pub fn keep(letter: u8, kept: &[u8; RECORD_SIZE]) -> bool
     requires { (letter_in letters letter).size ≡ 0 → ⊥ }
     ensures { result ≡ keeps_all (letter_in letters letter).rows (values (letter_in record_letters letter).rows kept.now) }
 {
+    // Each letter asks its own fields: one line of a match for each.
     match letter {
         b'S' => limits::time_keeps(kept, 8) & codes::is_event(field::read::<u8>(kept, 1)),
         b'm' => limits::time_keeps(kept, 8) & entry::keep_at(kept, 75, 68, 64, 71, 83, 72),

@@ -15,10 +15,12 @@ mod wire;
 
 pub const RECORD_SIZE: usize = 112;
 
-// The answer for bytes that are no record, or break the rules of its fields.
+// The answer for bytes that are no record, or break the rules of its fields: a number, as all that `read` and `write` answer, since
+// `nelqubat_read` and `nelqubat_write` hand it to C.
 const NO_RECORD: u32 = 26;
 
-// What some bytes hold, with a directory's texts beside it; zeros beside any other.
+// What some bytes hold, with a directory's texts beside it; zeros beside any other, and beside none (`Record.no_record`): the texts
+// stand outside the option, since `Record.record_of` says them of any bytes, and readers and demands speak of them so.
 #[derive(Clone, Copy)]
 pub struct Held {
     pub taken: Option<Message>,
@@ -38,13 +40,15 @@ fn none() -> Held
 fn side_at(side: Side) -> usize
     ensures { (result ≡ side_at side) × (result ≤ 44) }
 {
+    // Two fixed places of a record, which are no part of what a side is in a message.
     match side {
         Side::Bid => 24,
         Side::Ask => 44,
     }
 }
 
-// The record of a message's bytes, which have passed their test. They are handed on as a part of themselves, so that their place goes in a register.
+// The record of a message's bytes, which have passed their test. The memory stays a slice: turned into an array here, it costs
+// `nelqubat_step` with one message 392 instructions for 389, and `nelqubat_read` 191 for 187. The bytes are handed on as a part of themselves, so that their place goes in a register.
 pub fn put(bytes: &[u8], out: &mut [u8])
     requires { (tested (read_of bytes.now) ≡ 0) × (length out.old ≡ record_size) }
     ensures { out.new ≡ (read_to (read_of bytes.now).answer (read_of bytes.now).texts out.old).memory }

@@ -128,6 +128,7 @@ pub fn lay(bytes: &[u8], out: &mut [u8])
     requires { Sized (letter_in letters (get_or bytes.now 0 0)) bytes.now × (record_size ≤ length out.old) }
     ensures { out.new ≡ laid_from bytes.now out.old }
 {
+    // A match on the letter: a table of functions would stand beside the same ten lines.
     match bytes[0] {
         b'S' => system_event(bytes, out),
         b'm' => directory(bytes, out),

@@ -1,13 +1,9 @@
 -- `message::entry::is_underlying` meets its contract.
 use mathlib.Core.Path.{◌≡◌}
-use native.Mathlib.Omega.{arith}
 use lib.ListN.{length}
 use borrow.Author.Rules.{rules}
 use Rattle.message.proofs.Ways.{text-whole}
 use Rattle.message.proofs.entry.is_underlying.Goals as goal
-
-pub is_text-requires : goal.is_text-requires
-is_text-requires c = let h : length c.args.t.underlying ≡ 13 = search rules in omega arith
 
 pub returns : goal.returns
 returns c = let h : length c.args.t.underlying ≡ 13 = search rules in text-whole _ 13 h c.is_text.ensures

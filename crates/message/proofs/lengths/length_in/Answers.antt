@@ -2,9 +2,8 @@
 use mathlib.Core.Path.{◌≡◌, sym, ◌∙◌}
 use Prim.Native.Nat.{◌+◌, ◌*◌, ◌<◌, ◌≤◌}
 use native.Mathlib.Omega.{arith}
-use lib.ListN.{length, drop}
+use lib.ListN.{length}
 use borrow.Author.Rules.{rules}
-use Rattle.message.specs.Feed.{length_in}
 use Rattle.message.proofs.Feeds.{length-here, length-on, length_none}
 use Rattle.message.proofs.lengths.length_in.Goals as goal
 

@@ -1,6 +1,6 @@
 -- `message::test::quote` meets its contract.
 use borrow.Author.Rules.{rules}
-use Rattle.message.proofs.Tested.{room-head, room-time, quote-sized, quote-long, quote-time, quote-condition, quote-prices, quote-kept}
+use Rattle.message.proofs.Tested.{room-head, room-time, quote-long, quote-time, quote-condition, quote-prices, quote-kept}
 use Rattle.message.proofs.test.quote.Goals as goal
 
 pub returns-then-bytes-size : goal.returns-then-bytes-size
@@ -17,9 +17,6 @@ read-requires c = search (room-head, rules)
 
 pub returns-then-not-is_condition : goal.returns-then-not-is_condition
 returns-then-not-is_condition c = search (quote-condition, rules)
-
-pub prices_keep-requires : goal.prices_keep-requires
-prices_keep-requires c = search (quote-sized, rules)
 
 pub returns-then-not-prices_keep : goal.returns-then-not-prices_keep
 returns-then-not-prices_keep c = search (quote-prices, rules)
