@@ -1,4 +1,5 @@
-// The handle in bytes: its head, and behind that the places of its held bytes.
+// The handle in bytes: its head, and behind that the places of its held bytes. It is handed about as a slice whose length is a clause: with
+// an array this crate proves, but the reader's `within_limits`, `place` and `other` stayed open.
 #![tactic(auto)]
 
 ghost use Rattle.std.specs.Prelude.{◌≡◌, ◌++◌, ◌≤◌, length};

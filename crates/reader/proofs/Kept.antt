@@ -24,7 +24,7 @@ use Rattle.handle.specs.Handle.{head_size, handle_size, is_handle, head_of}
 use Rattle.handle.specs.declared.Head.{Head}
 use Rattle.handle.proofs.Rounds.{handle-length}
 use Rattle.table.specs.Memory.{Memories, memories, rows_fit}
-use Rattle.table.specs.Index.{index_size, is_index, LentFitting}
+use Rattle.table.specs.Index.{index_size, is_index, LentFitting, built}
 use Rattle.table.specs.Board as tables
 use Rattle.table.specs.Board.{fresh_board, fits, outcome, beside, start_of}
 use Rattle.table.specs.declared.Applied.{Applied}
@@ -48,7 +48,7 @@ use Rattle.reader.specs.declared.Reader.{Reader}
 use Rattle.reader.specs.declared.StepAnswer.TheVariants as answer
 use Rattle.std.specs.Prelude.{Err}
 use Rattle.std.specs.Prelude.{Ok}
-use Rattle.std.specs.Prelude.{Result, MatchResult, IsErrAnd}
+use Rattle.std.specs.Prelude.{Result, MatchResult, IsErrAnd, is_ok}
 use Rattle.image.specs.declared.Refusal as image_refusal
 
 -- ---- what is held
@@ -319,6 +319,13 @@ module _ (memory after : Memories) (a : Applied) (l : Line) (r : Reader) (e : be
       → Starting memory (record { reader = r; answer = x }) after
   unfolding start_all
   started x m = rw (f, i, ← e, ← answered a.verdict x m)
+
+-- ---- the index of an image that was accepted
+
+pub index-built : (v : Result (Unit {0}) image_refusal.Refusal) {b : Bool} (rows : ℕ) (table index : List ℕ) {index' : List ℕ} → b ≡ is_ok v → b ≡ true
+    → index' ≡ built rows (length index) table → index' ≡ index_after v rows table index
+index-built (Ok u) rows table index e f g = g
+index-built (Err r) rows table index e f g = absurd (never (sym e ∙ f))
 
 -- ---- the ways through saving and restoring
 
