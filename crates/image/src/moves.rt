@@ -114,7 +114,7 @@ fn move_image(image: &[u8], out: &mut [u8], way: Way) -> Result<usize, Refusal>
     Ok(size)
 }
 
-// An image of version 1 or 2 as version 3, to the front of `out`.
+// An image of version 1 or 2 as version 3, to the front of `out`. This and `back` are two names of one function, as C's calls are.
 pub fn forward(image: &[u8], out: &mut [u8]) -> Result<usize, Refusal>
     ensures { saving result out.new ≡ move_of Forward image.now out.old }
 {
@@ -128,7 +128,7 @@ pub fn back(image: &[u8], out: &mut [u8]) -> Result<usize, Refusal>
     move_image(image, out, Way::Back)
 }
 
-// How many times of seen sides are known in the rows of an image.
+// How many times of seen sides are known in the rows of an image; `used` counts rows, and is no length of the image.
 fn known_in(image: &[u8], used: usize) -> usize
     requires { (verdict_of image.now ≡ Ok tt) × (used ≡ (header_of image.now).board.rows) }
     ensures { result ≡ known_in used (rows_of image.now) }

@@ -54,7 +54,7 @@ pub fn ending_for(refusal: u8, ended: bool) -> Ending
 }
 
 // Each of the functions below puts its text from `at` on, and answers where it ends, which is where the next one begins: a place, not a part of the
-// buffer, so that one contract (`Put`) says of each what it leaves of the whole.
+// buffer, so that one contract (`Put`) says of each what it leaves of the whole. A row is a slice, as the functions of `row` take it.
 
 fn number(out: &mut [u8], at: usize, v: u64) -> usize
     requires { at + 20 ≤ length out.old }

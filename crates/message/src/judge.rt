@@ -74,6 +74,7 @@ fn keep_price<T: Width>(bytes: &[u8], at: usize) -> bool
     field::read::<T>(bytes, at).keeps()
 }
 
+// A letter's room is a premise, here and wherever a letter is read or put: an array's length can't be reckoned from the width.
 fn keep_quote<T: Width>(bytes: &[u8]) -> bool
     requires { 16 + 10 * T.width ≤ length bytes.now }
     ensures { result ≡ keeps_all (whole_quote_rows T.width T.form.keeps) (values (whole_quote_rows T.width T.form.keeps) bytes.now) }

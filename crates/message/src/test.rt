@@ -70,7 +70,7 @@ pub fn quote(letter: u8, size: usize, bytes: &[u8]) -> Result<(), Refusal>
     Ok(())
 }
 
-// Bytes of the right length whose letter is no quote's.
+// Bytes of the right length whose letter is no quote's: three functions ask so of a plain byte, which the reader hands on as it lies.
 fn fields_keep(letter: u8, bytes: &[u8]) -> bool
     requires { (quote_length letter ≡ 0) × Sized (letter_in letters letter) bytes.now }
     ensures { result ≡ keeps_all (letter_in letters letter).rows (values (letter_in letters letter).rows bytes.now) }

@@ -18,7 +18,7 @@ ghost use Rattle.nelqubat.specs.Host.{no_held, HostStarts, StartsOn, HostRestore
 use handle::{HANDLE_SIZE, HEAD_SIZE, Head};
 use listing::{Shown, Text};
 use packet::HELD_SIZE;
-use reader::{Reader};
+use reader::Reader;
 use record::RECORD_SIZE;
 use table::index;
 use table::index::Sought;

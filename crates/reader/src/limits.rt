@@ -7,7 +7,7 @@ ghost use Rattle.reader.specs.Limits.{holds_unfinished, lent_within, head_with};
 use crate::refusals;
 use packet::{Framing, HELD_SIZE};
 
-// Are the held bytes those of an unfinished packet?
+// Are the held bytes those of an unfinished packet? They are places of the handle, of which `used` are in use.
 fn holds_unfinished(used: usize, held: &[u8]) -> bool
     requires { length held.now ≡ held_size }
     ensures { result ≡ holds_unfinished (reader_with (head_with 0 0 used 0) held.now) }

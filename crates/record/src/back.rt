@@ -15,6 +15,7 @@ use message::{Side, codes, entry, numbers};
 
 // ---- the fields, each moved to its place in the message
 // They are the moves of `wire` the other way. One function of both would be handed each move's two places and its width, which is all that these say.
+// Record and output stay two arguments, since each move goes from one to the other, and the output may be longer than the letter that it has room for.
 
 // The letter and the stamp.
 fn stamp(kept: &[u8; RECORD_SIZE], out: &mut [u8])
@@ -153,6 +154,7 @@ pub fn lay(letter: u8, kept: &[u8; RECORD_SIZE], out: &mut [u8])
 
 // ---- what is asked of the record before
 
+// A run by its place and length, as the clauses of `field` name it.
 fn zeros(kept: &[u8], from: usize, n: usize) -> bool
     requires { from + n ≤ length kept.now }
     ensures { result ≡ every is_zero (part kept.now from n) }

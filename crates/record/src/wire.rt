@@ -1,4 +1,5 @@
-// The record of a message laid straight from its bytes, which have passed their test.
+// The record of a message laid straight from its bytes, which have passed their test. Message and record stay two slices: each move goes from one to
+// the other, `put` says what an array costs, and a message may be longer than the letter that is moved.
 ghost use Rattle.std.specs.Prelude.{◌≡◌, ◌∷◌, ◌+◌, ◌*◌, ◌≤◌, length, take, drop, get_or};
 ghost use Rattle.field.specs.Bytes.{part, overlay};
 ghost use Rattle.message.specs.Layout.{values};

@@ -1,6 +1,7 @@
 // The fields of a row that others look at.
 //
 // A row is a slice of at least ROW_SIZE bytes, here and in the modules beside this one: an array would ask callers for a row of just that length.
+// Each function is one field, which its clause names.
 ghost use Rattle.std.specs.Prelude.{◌≡◌, ◌≤◌, length};
 ghost use Rattle.row.specs.Fields.{row_size, id_of, state_of, side_at, sides_of, price_of, has_seen, side_time_at, side_time_of};
 

@@ -40,6 +40,7 @@ fn option_at(rt: &HostRuntime, place: usize) -> Choice {
     }
 }
 
+// Every text is a choice, so this can't fail, and is no TryFrom.
 fn named(text: &[u8]) -> Choice {
     match text {
         b"--help" => Choice::Help,
@@ -59,7 +60,7 @@ fn set_once(file: &mut Option<usize>, place: Option<usize>) -> bool {
     true
 }
 
-// Each option for a file stands once, and its file follows it.
+// Each option for a file stands once, and its file follows it, so the loop takes both from the same places.
 pub fn read(rt: &HostRuntime) -> Wanted {
     let mut wanted = Wanted::default();
     let mut places = 1..command_line::count(rt);

@@ -114,13 +114,7 @@ fn save_to(rt: &HostRuntime, path: &[u8], reader: Reader, table: &[u8]) -> Resul
         Ok(n) if n <= MOST_IMAGE => store(rt, path, &image[..n]),
         Ok(_) => Err(Fault::Failed),
         Err(r) => {
-            complaints::refusal(
-                rt,
-                &PROGRAM,
-                path,
-                b": not saved: refused ",
-                u8::from(r),
-            );
+            complaints::refusal(rt, &PROGRAM, path, b": not saved: refused ", u8::from(r));
             Err(Fault::Failed)
         }
     }

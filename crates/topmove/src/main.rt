@@ -47,6 +47,7 @@ fn print_usage(rt: &HostRuntime) {
     );
 }
 
+// The way is handed on to the line, whose promise names it.
 fn print_line(rt: &HostRuntime, way: Way, moved: Moved) -> Result<(), Fault> {
     let mut text = [0u8; LINE_SIZE];
     let n = line::put(&mut text, way, moved);
@@ -74,13 +75,7 @@ impl Move {
                 print_line(rt, self.way, moved)
             }
             Err(r) => {
-                complaints::refusal(
-                    rt,
-                    &PROGRAM,
-                    path,
-                    b": not moved: refused ",
-                    u8::from(r),
-                );
+                complaints::refusal(rt, &PROGRAM, path, b": not moved: refused ", u8::from(r));
                 Err(Fault::Refused)
             }
         }
