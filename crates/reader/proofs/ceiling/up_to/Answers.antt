@@ -28,9 +28,6 @@ slice_bounds-turned-end c = omega (arith, c.loop-finished.invariant.0.there)
 pub turned-number-requires : goal.turned-number-requires
 turned-number-requires c = c.loop-finished.invariant.0.within
 
-pub overflow_cast-taken : goal.overflow_cast-taken
-overflow_cast-taken c = omega arith
-
 pub overflow_add-taken : goal.overflow_add-taken
 overflow_add-taken c =
     let memory : Memories = memories c.args.table.now c.args.index.now in
