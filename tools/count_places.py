@@ -234,7 +234,7 @@ def point_7(paths, fns):
         m = re.search(r": (Way|Wanted)\b", f.params)
         if m:
             yield f.path, f.line, f"fn {f.name}: {m[1]} is handed down"
-        arms = re.findall(r"b'.' => (\w[\w:]*)\(", f.body)
+        arms = re.findall(r"b'.' => (\w[\w:<>]*)\(", f.body)
         if len(arms) >= 4:
             yield f.path, f.line, f"fn {f.name}: a function for each of {len(arms)} letters"
 
