@@ -1,4 +1,4 @@
-// Numbers in characters, read and written.
+// Numbers in characters, read and written; a run of them is a slice, a place and a length, as everywhere in `field`.
 ghost use Rattle.std.specs.Prelude.{◌≡◌, ◌+◌, ◌≤◌, length};
 ghost use Rattle.field.specs.Bytes.{part, overlay};
 ghost use Rattle.field.specs.Decimal.{Leads, number_of, number_after_spaces, number_before_spaces, digit_chars, digit_count, chars_then_spaces};

@@ -59,7 +59,7 @@ impl Number for u16 {
 }
 
 // Four bytes at the width of eight. As one flat sum at that width it, and a number of eight bytes of two such, compile to one load. With
-// `from_be_bytes` in place of it a number of four bytes costs a quote 1 instruction more, and one of eight 11.
+// `from_be_bytes` in place of it a quote for one instrument takes 390 instructions in place of 389 for a number of four bytes, and 400 for one of eight.
 fn wide4(s: &[u8], at: usize) -> u64
     requires { at + 4 ≤ length s.now }
     ensures { (result ≡ be (part s.now at 4)) × (result < 2 ^ 32) }

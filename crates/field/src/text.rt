@@ -1,4 +1,4 @@
-// Runs of characters, and texts padded with spaces.
+// Runs of characters, and texts padded with spaces; a run is a slice, a place and a length, as everywhere in `field`.
 ghost use Rattle.std.specs.Prelude.{◌≡◌, ◌+◌, ◌≤◌, length, not};
 ghost use Rattle.std.specs.List.{position_from};
 ghost use Rattle.field.specs.Bytes.{part};
@@ -20,7 +20,8 @@ pub fn run(s: &[u8], at: usize, n: usize, low: u8, high: u8) -> usize
     first_outside(&s[at..at + n], low, high).unwrap_or(n)
 }
 
-// Are the n bytes from `at` on all this one? Without a branch, so that several are compared at once.
+// Are the n bytes from `at` on all this one? Without a branch, so that several are compared at once: with `all` the writing of a record
+// took 185 instructions more.
 pub fn only(s: &[u8], at: usize, n: usize, byte: u8) -> bool
     requires { at + n ≤ length s.now }
     ensures { result ≡ every (within byte byte) (part s.now at n) }

@@ -2,11 +2,10 @@
 #![tactic(auto)]
 
 ghost use Rattle.std.specs.Prelude.{◌≡◌, ◌++◌, ◌+◌, ◌≤◌, cond, eqb, length};
-ghost use Rattle.field.specs.Bytes.{overlay};
 ghost use Rattle.field.specs.Decimal.{chars};
 ghost use Rattle.row.specs.Fields.{row_size};
 ghost use Rattle.table.specs.Memory.{Fitting};
-ghost use Rattle.listing.specs.Lines.{ending_of, line_end, next_line, dash, dollars, price_text, state_text, side_text, row_line, last_line, line_in, line_size, Put, Written, Short, shown_of};
+ghost use Rattle.listing.specs.Lines.{ending_of, line_end, next_line, dash, dollars, price_text, state_text, side_text, row_line, last_line, line_in, Put, Written, Short, shown_of};
 
 use message::Side;
 use row::fields;

@@ -16,14 +16,6 @@ use Rattle.std.specs.Prelude.{Option, Some, None, option_map}
 -- ---- what a number says
 
 module _ (n : ℕ) where
-  pub none_from : n ≡ 0 → None ≡ price_from n
-  unfolding price_from
-  none_from e = rw (eq-eqb n 0 e)
-
-  pub above_from : (n ≡ 0 → ⊥) → Some n ≡ price_from n
-  unfolding price_from
-  above_from h = rw (ne_eqb n 0 h)
-
   -- a rule of the price that a number says, by whether it is zero
   by_number : (P : Option ℕ → Type 0) → (n ≡ 0 → P None) → ((n ≡ 0 → ⊥) → P (Some n)) → P (price_from n)
   unfolding price_from

@@ -75,13 +75,6 @@ module _ (c : ℕ) {x : Option ℕ} (p : x ≡ listed_length (letter_in quote_le
   unfolding quote_length
   no-quote q = has-none (letter_in quote_letters c) p q
 
-  pub some-quote : is_some x ≡ true → quote_length c ≡ 0 → ⊥
-  some-quote s z = by x refl
-    where
-      by : (y : Option ℕ) → x ≡ y → ⊥
-      by (Some n) q = (is-quote q).1 ((is-quote q).0 ∙ z)
-      by None q = never (sym (ap is_some q) ∙ s)
-
 -- what each of them is: a letter of the feed, with room for its prices, and three rules
 pub record Quotes (bs : List ℕ) (c : ℕ) (l : Letter Content) : Type 0 where
   pub own : letter_in letters c ≡ l
@@ -144,9 +137,6 @@ module _ (c size : ℕ) (bs : List ℕ) (is : size ≡ quote_length c) (some : s
 
   pub room-time : length bs ≡ size → 11 ≤ length bs
   room-time e = omega (arith, room-head e)
-
-  pub quote-sized : length bs ≡ size → (quote_length c ≡ 0 → ⊥) × (length bs ≡ quote_length c)
-  quote-sized e = (some-length, e ∙ is)
 
   pub quote-long : (length bs ≡ size → ⊥) → Err WrongLength ≡ checked (read_as (letter_in letters c) bs)
   quote-long h = long (letter_in letters c) bs (λ e. some (own-size ∙ e)) (λ e. h (e ∙ sym own-size))

@@ -66,7 +66,7 @@ fn keep_head(bytes: &[u8]) -> bool
     rules::keep_head(take::time(bytes), take::condition(bytes))
 }
 
-// The rule of a price, tested where it lies.
+// The rule of a price, tested where it lies: bytes and place, as `field` reads a number.
 fn keep_price<T: Width>(bytes: &[u8], at: usize) -> bool
     requires { at + T.width ≤ length bytes.now }
     ensures { result ≡ T.form.keeps (be (part bytes.now at T.width)) }

@@ -1,4 +1,4 @@
-// Records taken from bytes of their letter's length.
+// Records taken from bytes of their letter's length. `time` and `condition` are two fields of a width each.
 ghost use Rattle.std.specs.Prelude.{◌≡◌, ◌+◌, ◌*◌, ◌≤◌, length};
 ghost use Rattle.field.specs.Bytes.{part, be};
 ghost use Rattle.message.specs.Layout.{values};

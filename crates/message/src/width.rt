@@ -5,15 +5,20 @@ ghost use Rattle.message.specs.Letters.{Form, short_form, long_form, map_quote, 
 use crate::{Message, OneSide, Quote, Side};
 use field::{Number, limits};
 
+// A number of a quote. Zero says that there is no price.
 pub trait Width: Number {
+    // The form as the definitions have it.
     ghost form: { Form };
 
+    // How many bytes a number has.
     fn size() -> usize
         ensures { (result ≡ Self.width) × (result ≤ 4) };
 
+    // The number that says no price.
     fn zero() -> Self
         ensures { Self.number result ≡ 0 };
 
+    // The same number in four bytes.
     fn value(self) -> u32
         ensures { result ≡ Self.number self };
 
@@ -21,15 +26,19 @@ pub trait Width: Number {
     fn keeps(self) -> bool
         ensures { result ≡ form.keeps (Self.number self) };
 
+    // The letter of a quote of both sides.
     fn quote_code() -> u8
         ensures { result ≡ form.quote_code };
 
+    // The letter of a quote of one side.
     fn side_code(side: Side) -> u8
         ensures { result ≡ form.side_code side };
 
+    // The message that a quote of both sides is.
     fn quote(q: Quote<Self>) -> Message
         ensures { result ≡ form.quote (map_quote Self.number q) };
 
+    // The message that a quote of one side is.
     fn side(s: OneSide<Self>) -> Message
         ensures { result ≡ form.side (map_side Self.number s) };
 

@@ -1,11 +1,11 @@
 // A message's bytes laid straight from its record, and what is asked of the record before that, where it lies.
 ghost use Rattle.std.specs.Prelude.{◌≡◌, ◌&&◌, ◌∷◌, ◌+◌, ◌*◌, ◌≤◌, length, take, drop};
-ghost use Rattle.field.specs.Bytes.{part, overlay, be};
+ghost use Rattle.field.specs.Bytes.{part, be};
 ghost use Rattle.field.specs.Limits.{time_in_range};
 ghost use Rattle.field.specs.Text.{every, is_zero};
 ghost use Rattle.message.specs.Layout.{values, keeps_all};
 ghost use Rattle.message.specs.Letters.{letters, letter_in, listed, conditions, end_of_replay_rows, stamp_rows, instrument_rows, directory_rows, quote_rows, system_event_rows, numbers_rows, whole_quote_rows, one_side_rows};
-ghost use Rattle.record.specs.Places.{record_size, letter_place, stamp_places, instrument_places, directory_places, end_of_replay_places, head_places, system_event_places, side_places, high_places, whole_quote_places, one_side_places, record_letters};
+ghost use Rattle.record.specs.Places.{letter_place, stamp_places, instrument_places, directory_places, end_of_replay_places, head_places, system_event_places, side_places, high_places, whole_quote_places, one_side_places, record_letters};
 ghost use Rattle.record.specs.Record.{laid, laid_back, is_own, clear};
 
 use crate::RECORD_SIZE;
@@ -132,7 +132,7 @@ fn end_of_replay(kept: &[u8; RECORD_SIZE], out: &mut [u8])
     field::decimal::write_number_before_spaces(out, 1, 20, field::read::<u64>(kept, 16));
 }
 
-// The fields of any letter, to a message's length.
+// The fields of any letter, to a message's length. This and the two below ask that the letter is listed, since a byte is what a record holds.
 pub fn lay(letter: u8, kept: &[u8; RECORD_SIZE], out: &mut [u8])
     requires { ((letter_in letters letter).size ≡ 0 → ⊥) × ((letter_in letters letter).size ≤ length out.old) }
     ensures { out.new ≡ laid_back letter kept.now out.old }

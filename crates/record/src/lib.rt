@@ -48,7 +48,8 @@ fn side_at(side: Side) -> usize
 }
 
 // The record of a message's bytes, which have passed their test. The memory stays a slice: turned into an array here, it costs
-// `nelqubat_step` with one message 392 instructions for 389, and `nelqubat_read` 191 for 187. The bytes are handed on as a part of themselves, so that their place goes in a register.
+// `nelqubat_step` with one message 392 instructions for 389, and `nelqubat_read` 191 for 187. The bytes are handed on as a part of themselves, so
+// that their place goes in a register.
 pub fn put(bytes: &[u8], out: &mut [u8])
     requires { (tested (read_of bytes.now) ≡ 0) × (length out.old ≡ record_size) }
     ensures { out.new ≡ (read_to (read_of bytes.now).answer (read_of bytes.now).texts out.old).memory }

@@ -1,5 +1,5 @@
-// What the fields of a record's bytes say, by their letter: one reader for each kind. `message` asks for a record's bytes at least: an array of them
-// would ask for no more.
+// What the fields of a record's bytes say, by their letter: one reader for each kind. `message` asks for a record's bytes at least: an array
+// would ask for exactly so many.
 ghost use Rattle.std.specs.Prelude.{◌≡◌, ◌+◌, ◌≤◌, length};
 ghost use Rattle.message.specs.Layout.{values};
 ghost use Rattle.message.specs.Letters.{letter_in, no_texts, stamp_of, numbers_of, map_numbers, instrument_of, texts_of, system_event_letter, directory_letter, trading_action_letter, quote_letter, side_letter, end_of_replay_letter};
@@ -149,6 +149,7 @@ pub fn message(letter: u8, bytes: &[u8]) -> Held
     requires { record_size ≤ length bytes.now }
     ensures { result ≡ said_by (letter_in record_letters letter) bytes.now }
 {
+    // A match on the letter: a table of functions would stand beside the same eleven lines.
     match letter {
         b'S' => system_event(bytes),
         b'm' => directory(bytes),

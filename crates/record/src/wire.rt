@@ -1,7 +1,6 @@
 // The record of a message laid straight from its bytes, which have passed their test. Message and record stay two slices: each move goes from one to
 // the other, `put` says what an array costs, and a message may be longer than the letter that is moved.
 ghost use Rattle.std.specs.Prelude.{◌≡◌, ◌∷◌, ◌+◌, ◌*◌, ◌≤◌, length, take, drop, get_or};
-ghost use Rattle.field.specs.Bytes.{part, overlay};
 ghost use Rattle.message.specs.Layout.{values};
 ghost use Rattle.message.specs.Letters.{letters, letter_in, end_of_replay_rows, stamp_rows, instrument_rows, directory_rows, quote_rows, system_event_rows, numbers_rows, whole_quote_rows, one_side_rows};
 ghost use Rattle.record.specs.Places.{record_size, letter_place, stamp_places, instrument_places, directory_places, end_of_replay_places, head_places, system_event_places, side_places, whole_quote_places, one_side_places};

@@ -11,7 +11,6 @@ use Rattle.message.specs.Letters.{listed, states, ShortNumbers}
 use Rattle.message.specs.declared.Side.TheVariants.{Bid, Ask}
 use Rattle.std.specs.Prelude.{Some, None}
 use Rattle.std.specs.Prelude.{Option}
-use Rattle.std.specs.declared.option.Option.TheVariants as short
 use Rattle.row.specs.Fields.{row_size, sides_of, price_of, numbers_of, side_time_of, seen_with, quoting_states, state_takes_quote}
 use Rattle.row.specs.Changes.{changed, widened, sides_changes, times_changes, quote_changes}
 use Rattle.row.specs.declared.Sides.TheVariants.{One}
@@ -21,14 +20,14 @@ use Rattle.row.specs.declared.Quote.{Quote}
 abbrev pennies : Option ℕ → ShortNumbers
 pennies p = record { market = 0; price = p; size = 10; customer = 0; professional = 0 }
 
-c10-low : (widened (pennies (short.Some 125))).price ≡ Some 12_500
+c10-low : (widened (pennies (Some 125))).price ≡ Some 12_500
 c10-low = refl
 
-c10-high : (widened (pennies (short.Some 65_535))).price ≡ Some 6_553_500
+c10-high : (widened (pennies (Some 65_535))).price ≡ Some 6_553_500
 c10-high = refl
 
 -- and none is none
-none_stays : (widened (pennies short.None)).price ≡ None
+none_stays : (widened (pennies None)).price ≡ None
 none_stays = refl
 
 -- a bid of 1.25 in a row of zeros: its side is seen, its price is 12,500 ten-thousandths, and the ask is as it was
@@ -36,7 +35,7 @@ abbrev bid : Option ℕ → Quote
 bid p = record { stamp = record { tracking = 1; time = 2 }; id = 7; condition = 32; sides = One Bid (widened (pennies p)) }
 
 abbrev row-after : List ℕ
-row-after = changed (quote_changes (bid (short.Some 125)) (replicate row_size 0)) (replicate row_size 0)
+row-after = changed (quote_changes (bid (Some 125)) (replicate row_size 0)) (replicate row_size 0)
 
 bid-seen : sides_of row-after ≡ 1
 unfolding changed quote_changes sides_changes times_changes seen_with overlay part digits value bytes_for
@@ -48,7 +47,7 @@ bid-price = refl
 
 -- then nobody bids: the side stays seen, and its price is none (W-206)
 abbrev row-none : List ℕ
-row-none = changed (quote_changes (bid short.None) row-after) row-after
+row-none = changed (quote_changes (bid None) row-after) row-after
 
 none_seen : sides_of row-none ≡ 1
 unfolding changed quote_changes sides_changes times_changes seen_with overlay part digits value bytes_for

@@ -161,6 +161,10 @@ id-read xs e = e
 
 -- a quote is taken where the state takes one and tradable is Y
 module _ (xs : List ℕ) {state : ℕ} {quoting : Bool} (e : state ≡ be (part xs 52 1)) (f : quoting ≡ state_takes_quote state) where
+  pub state-denies : quoting ≡ false → false ≡ takes_quote xs
+  unfolding takes_quote
+  state-denies g = rw (← e, ← f, g)
+
   pub state-allows : {tradable : Bool} → quoting ≡ true → tradable ≡ eqb (be (part xs 34 1)) 89 → tradable ≡ takes_quote xs
   unfolding takes_quote tradable_of values
   state-allows g h = rw (← e, ← f, g, h)

@@ -8,8 +8,7 @@ use Rattle.message.specs.Letters.{stamp_rows, stamp_fields, long_numbers_rows, n
 use Rattle.message.specs.declared.Stamp.{Stamp}
 use Rattle.message.specs.declared.Side.{Side}
 use Rattle.message.specs.declared.Side.TheVariants.{Bid, Ask}
-use Rattle.std.specs.Prelude.{Option}
-use Rattle.std.specs.declared.option.Option.TheVariants as long
+use Rattle.std.specs.Prelude.{Option, Some, None}
 use Rattle.message.specs.declared.Instrument.{Instrument}
 use Rattle.message.specs.declared.Directory.{Directory}
 use Rattle.message.specs.declared.TradingAction.{TradingAction}
@@ -113,8 +112,8 @@ action_changes a = state_change a.state ∷ stamp_change a.stamp ∷ []
 
 -- the table keeps ten-thousandths: short prices are pennies
 abbrev pub widened_price : Option ℕ → Option ℕ
-widened_price (long.Some n) = long.Some (ten_thousandths n)
-widened_price long.None = long.None
+widened_price (Some n) = Some (ten_thousandths n)
+widened_price None = None
 
 abbrev pub widened : ShortNumbers → LongNumbers
 widened n =
