@@ -9,6 +9,9 @@ use std::io;
 // No chain that the system follows is longer.
 const MOST_LINKS: usize = 40;
 
+// So much of a link's text is read.
+const MOST_TEXT: usize = 4096;
+
 // How many bytes of a name stand before and with its last slash, 0 where it has none.
 fn folder(path: &[u8]) -> usize
     ensures { result ≤ length path.now }
@@ -57,7 +60,8 @@ pub fn followed(rt: &HostRuntime, path: &mut [u8], n: usize) -> io::Result<Optio
         let Some(link) = names::read_link(rt, &path[..size])? else {
             return Ok(Some(size));
         };
-        let text = link.as_str().as_bytes();
+        let all = link.as_str().as_bytes();
+        let text = &all[..all.len().min(MOST_TEXT)];
         if text.is_empty() {
             return Ok(Some(size));
         }

@@ -11,7 +11,7 @@ use std::{fs, io};
 // Who may read and write a new file: the one who made it.
 const OWNER_ONLY: u32 = 0o600;
 
-// The functions below differ in the function of std that they call, so one that took it as a closure would be no shorter.
+// A name as text.
 fn text(name: &[u8]) -> io::Result<&str>
     ensures { IfErr result (λ e. raw_os_error e ≡ None) }
 {
@@ -21,6 +21,7 @@ fn text(name: &[u8]) -> io::Result<&str>
     ))
 }
 
+// A file to be read. This and the functions below differ in the function of std that they call: one that took it as a closure would be no shorter.
 pub fn open(rt: &HostRuntime, name: &[u8]) -> io::Result<File> {
     File::open(rt, text(name)?)
 }

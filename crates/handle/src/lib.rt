@@ -116,7 +116,7 @@ pub fn put_head(h: Head, out: &mut [u8])
     put_marks(h, out);
 }
 
-// ---- single fields, where the handle lies: a function for each, since the clause of each names its own field of `head_of`
+// ---- single fields, where the handle lies: a function for each, since the clause of each names its own field of `head_of`, or `with_field` of it
 
 pub fn next(bytes: &[u8]) -> u64
     requires { length bytes.now ≡ handle_size }

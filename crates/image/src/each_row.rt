@@ -21,7 +21,8 @@ impl Way {
     }
 }
 
-// Row k of table memory, or of a page: these three take the memory and a number of rows, as `each_row` does, since what is behind the rows stays.
+// Row k of table memory, or of a page: these three take the memory and a number of rows, as `each_row` does, since what is behind the rows stays; and the way as a value, as
+// their clauses name it (`along way`).
 fn go_at(table: &mut [u8], way: Way, k: usize)
     requires { k * row_size + row_size ≤ length table.old }
     ensures { table.new ≡ with_row k (along way (row k table.old)) table.old }

@@ -65,7 +65,7 @@ pub fn put(out: &mut [u8], at: usize, h: Header)
     field::fill(out, at + FACTS_SIZE, block::BODY_SIZE - FACTS_SIZE, 0);
 }
 
-// What block 0 says. An image is a slice of many blocks, so that the first is there by a premise, here and in the next two.
+// What block 0 says. An image is a slice of many blocks: an array would ask this and the next two for exactly one.
 pub fn read(image: &[u8]) -> Header
     requires { block_size ≤ length image.now }
     ensures { result ≡ header_of image.now }

@@ -120,6 +120,7 @@ impl Blocks<'_> {
     }
 }
 
+// What an image is to a call that takes the versions that `wanted` names, as `verdict_in` does.
 pub fn judge(image: &[u8], wanted: Wanted) -> Result<(), Refusal>
     ensures { result ≡ verdict_in wanted image.now }
 {

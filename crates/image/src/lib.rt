@@ -74,6 +74,7 @@ pub struct Restored {
     pub header: Header,
 }
 
+// By a match: each refusal has its own number.
 impl From<Refusal> for u8 {
     ghost from_gives = { λ r n. n ≡ refusal_number r };
 

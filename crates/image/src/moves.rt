@@ -51,6 +51,7 @@ impl Source for Moving<'_> {
 
     ghost sizes = { λ m. m.sizes };
 
+    // The header of its own struct.
     fn header(&self) -> Header {
         self.header
     }

@@ -123,6 +123,7 @@ impl Source for Keeping<'_> {
 
     ghost sizes = { λ s. s.sizes };
 
+    // The header of its own struct.
     fn header(&self) -> Header {
         self.header
     }

@@ -27,6 +27,7 @@ fn is_event(number: u32) -> bool
     (1 <= kind) & (kind <= 6)
 }
 
+// That the handle may step is a premise, as the calls have tested it: a type for it would be made of the three borrows that stay apart.
 pub fn up_to(
     ceiling: u32,
     handle: &mut [u8],

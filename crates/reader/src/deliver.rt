@@ -114,7 +114,7 @@ pub fn message(
     ensures low_half { result < 65_536 }
 {
     if let Err(r) = tried(rows, handle, table, index, body) {
-        return told::refuse(r, handle);
+        return told::refuse(u8::from(r), handle);
     }
     handle::put_next(numbering::number_after(next), handle);
     told::MESSAGE

@@ -156,7 +156,7 @@ fn straight(handle: &mut [u8], rows: usize, table: &mut [u8], index: &mut [u8], 
             taken as u32 * told::BYTE_TAKEN
         }
         Framing::BadLength => {
-            told::refuse(Refusal::BadPacketLength, handle) + 2 * told::BYTE_TAKEN
+            told::refuse(u8::from(Refusal::BadPacketLength), handle) + 2 * told::BYTE_TAKEN
         }
         Framing::Whole(size) => {
             let end = size + 2;
@@ -166,6 +166,7 @@ fn straight(handle: &mut [u8], rows: usize, table: &mut [u8], index: &mut [u8], 
     }
 }
 
+// The answer is a number, as C reads it; `used` and the handle's bytes go side by side, as everywhere here (crate `handle` says why its length is a clause).
 // A step that its index led astray is undone: nothing is taken, no refusal stands, and what was held is held. `number` is its number.
 fn heeded(number: u32, used: usize, handle: &mut [u8]) -> u32
     requires { length handle.old ≡ handle_size }

@@ -46,7 +46,7 @@ fn other(handle: &mut [u8], letter: u8, body: &[u8]) -> u32
             told::END
         }
         Packet::Skipped => told::SKIPPED,
-        Packet::Refused(f) => told::refuse(Refusal::from(f), handle),
+        Packet::Refused(f) => told::refuse(u8::from(Refusal::from(f)), handle),
     }
 }
 

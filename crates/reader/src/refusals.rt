@@ -8,6 +8,7 @@ ghost use Rattle.reader.specs.Refusals.{refusal_number, standing, named};
 use crate::Refusal;
 use packet::Fault;
 
+// Numbers and names by a match, here and below: each refusal has its own.
 impl From<Refusal> for u8 {
     ghost from_gives = { λ r n. n ≡ refusal_number r };
 

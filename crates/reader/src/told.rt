@@ -7,11 +7,10 @@ ghost use Rattle.record.specs.Places.{record_size};
 ghost use Rattle.record.specs.Record.{record_of};
 ghost use Rattle.handle.specs.Handle.{handle_size, refusal_field, with_field};
 ghost use Rattle.reader.specs.Handles.{message_in, answer_in};
-ghost use Rattle.reader.specs.Refusals.{refusal_number};
 ghost use Rattle.reader.specs.Running.{why_of, why_in};
 ghost use Rattle.reader.specs.Shapes.{Tellable, told_by, read_back, beside, quiet_heard};
 
-use crate::{Event, Refusal, StepAnswer, Texts, Why, no_text, refusals};
+use crate::{Event, StepAnswer, Texts, Why, no_text, refusals};
 use packet::SESSION_SIZE;
 
 // These are numbers and no enum: C reads them, and `HostSteps` and `HostRuns` name them.
@@ -48,14 +47,13 @@ pub const BYTE_TAKEN: u32 = 65536;
 pub const SESSION_AT: usize = 8;
 
 // A packet is refused, and the refusal stands.
-pub fn refuse(refusal: Refusal, handle: &mut [u8]) -> u32
+pub fn refuse(r: u8, handle: &mut [u8]) -> u32
     requires { length handle.old ≡ handle_size }
-    ensures number { result ≡ 2048 + refusal_number refusal }
-    ensures handle_after { handle.new ≡ with_field refusal_field (refusal_number refusal) handle.old }
+    ensures value { result ≡ 2048 + r }
+    ensures handle_after { handle.new ≡ with_field refusal_field r handle.old }
 {
-    let number = u8::from(refusal);
-    handle::put_refusal(number, handle);
-    REFUSED + number as u32
+    handle::put_refusal(r, handle);
+    REFUSED + r as u32
 }
 
 // Is the number of a step that of an accepted message?

@@ -53,7 +53,7 @@ fn put_rest(out: &mut [u8], at: usize, way: Way, lost: u64) -> usize
     }
 }
 
-// The line to the front of `out`; answers its length.
+// The line to the front of `out`; answers its length. The promise names the way, so it is a value here too.
 pub fn put(out: &mut [u8], way: Way, moved: Moved) -> usize
     requires { line_size ≤ length out.old }
     ensures out_after { out.new ≡ overlay out.old 0 (line_of way moved) }

@@ -82,7 +82,7 @@ pub returns-in-BadLength : goal.returns-in-BadLength
 returns-in-BadLength c =
     let memory : Memories = memories c.args.table.now c.args.index.now in
     let lent : Lent c.args.handle.now = search (rules, c.slice_known-1) in
-    straight-bad c.args.handle.now memory c.requires.0 lent c.args.piece.now c.front.ensures c.in-BadLength.is refl c.refuse.ensures.number c.refuse.ensures.handle_after
+    straight-bad c.args.handle.now memory c.requires.0 lent c.args.piece.now c.front.ensures c.in-BadLength.is c.from.ensures c.refuse.ensures.value c.refuse.ensures.handle_after
 
 pub returns-in-Whole : goal.returns-in-Whole
 returns-in-Whole c =

@@ -6,13 +6,13 @@ use Prim.Native.Nat.{◌≤◌}
 use lib.ListN.{length}
 use Rattle.field.proofs.Numbers.{Lent}
 use Rattle.packet.specs.Line.{packet_of}
-use Rattle.handle.specs.Handle.{handle_size, head_of}
+use Rattle.handle.specs.Handle.{handle_size, head_of, with_field, refusal_field}
 use Rattle.handle.specs.declared.Head.{Head}
 use Rattle.handle.proofs.Rounds.{handle-length}
 use Rattle.reader.proofs.Ways.{login-long}
-use Rattle.reader.proofs.Fits.{number-low}
 use Rattle.reader.proofs.Judged.{other-login, other-rejected, other-heartbeat, other-end, other-skipped, other-refused, other-never}
 use Rattle.reader.proofs.packets.other.Goals as goal
+use Rattle.std.specs.Prelude.{ℕ, ◌+◌}
 
 -- what is known when the packet was judged
 
@@ -76,4 +76,4 @@ returns-in-Skipped c =
 pub returns-in-Refused : goal.returns-in-Refused
 returns-in-Refused c =
     let lent : Lent c.args.handle.now = search (rules, c.slice_known-1) in
-    let judged : (c.judge.result ≡ packet_of (head_of c.args.handle.now).line c.args.letter c.args.body.now) = c.judge.ensures ∙ ap (λ (x : Head). packet_of x.line c.args.letter c.args.body.now) c.read_head-head.ensures in record { closes = other-refused c.args.handle.now c.requires.0 lent c.args.letter c.args.body.now judged c.from.result c.in-Refused.is c.from.ensures c.refuse.ensures.number c.refuse.ensures.handle_after; low_half = omega (arith, c.refuse.ensures.number, number-low c.from.result) }
+    let judged : (c.judge.result ≡ packet_of (head_of c.args.handle.now).line c.args.letter c.args.body.now) = c.judge.ensures ∙ ap (λ (x : Head). packet_of x.line c.args.letter c.args.body.now) c.read_head-head.ensures in record { closes = other-refused c.args.handle.now c.requires.0 lent c.args.letter c.args.body.now judged c.from.result c.in-Refused.is c.from.ensures (c.refuse.ensures.value ∙ ap (λ (n : ℕ). 2048 + n) c.from-in-Refused.ensures) (c.refuse.ensures.handle_after ∙ ap (λ (n : ℕ). with_field refusal_field n c.args.handle.now) c.from-in-Refused.ensures); low_half = omega (arith, c.refuse.ensures.value, c.from-in-Refused) }
