@@ -444,14 +444,14 @@ module _ (xs : List ℕ) (at n k : ℕ) (fits : at + n ≤ length xs) where
       closed-zero e = before-bad t.count h (number-zero xs at k (omega arith) some e)
 
       module _ (first : get_or xs at 0 ≡ 48 → ⊥) {b : Bool} (s : b ≡ every is_space (part xs (at + k) (n - k))) where
-        closed-yes : b ≡ true → Some v ≡ number_before_spaces (part xs at n)
+        pub closed-yes : b ≡ true → Some v ≡ number_before_spaces (part xs at n)
         closed-yes y =
             let d : every is_digit (part xs at k) ≡ true
             = rw (← t.count, part-take xs at n k h) at (every-leading is_digit (part xs at n)) in
             before-part xs at n k t.count h s y
             (number-done xs at k (omega arith) v k some first (omega arith) (omega arith) t.most (t.is ∙ ap decimal (part-take xs at n k h)) d)
 
-        closed-no : b ≡ false → None ≡ number_before_spaces (part xs at n)
+        pub closed-no : b ≡ false → None ≡ number_before_spaces (part xs at n)
         closed-no y = no-before-part xs at n k t.count h s y
 
         pub closed_rest : then_some b v ≡ number_before_spaces (part xs at n)

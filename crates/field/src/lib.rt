@@ -18,6 +18,9 @@ pub trait Number: Copy {
 
     ghost number: { Self → ℕ };
 
+    // A number is that of one value alone, so that what is promised of the number fixes the value.
+    ghost one_value: { (x y : Self) → number x ≡ number y → x ≡ y };
+
     fn read(s: &[u8], at: usize) -> Self
         requires { at + width ≤ length s.now }
         ensures { number result ≡ be (part s.now at width) };
@@ -32,6 +35,8 @@ impl Number for u8 {
 
     ghost number = { λ v. v };
 
+    ghost one_value = { λ x y same_number. same_number };
+
     fn read(s: &[u8], at: usize) -> u8 {
         s[at]
     }
@@ -45,6 +50,8 @@ impl Number for u16 {
     ghost width = { 2 };
 
     ghost number = { λ v. v };
+
+    ghost one_value = { λ x y same_number. same_number };
 
     // A sum: with `from_be_bytes` a quote takes 8 instructions more.
     fn read(s: &[u8], at: usize) -> u16 {
@@ -75,6 +82,8 @@ impl Number for u32 {
 
     ghost number = { λ v. v };
 
+    ghost one_value = { λ x y same_number. same_number };
+
     fn read(s: &[u8], at: usize) -> u32 {
         wide4(s, at) as u32
     }
@@ -90,6 +99,8 @@ impl Number for u64 {
     ghost width = { 8 };
 
     ghost number = { λ v. v };
+
+    ghost one_value = { λ x y same_number. same_number };
 
     fn read(s: &[u8], at: usize) -> u64 {
         wide4(s, at) * 4294967296 + wide4(s, at + 4)
