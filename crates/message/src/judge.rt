@@ -66,28 +66,20 @@ fn keep_head(bytes: &[u8]) -> bool
     rules::keep_head(take::time(bytes), take::condition(bytes))
 }
 
-// The rule of a price, tested where it lies: bytes and place, as `field` reads a number.
-fn keep_price<T: Width>(bytes: &[u8], at: usize) -> bool
-    requires { at + T.width ≤ length bytes.now }
-    ensures { result ≡ T.form.keeps (be (part bytes.now at T.width)) }
-{
-    field::read::<T>(bytes, at).keeps()
-}
-
 // A letter's room is a premise, here and wherever a letter is read or put: an array's length can't be reckoned from the width.
 fn keep_quote<T: Width>(bytes: &[u8]) -> bool
     requires { 16 + 10 * T.width ≤ length bytes.now }
     ensures { result ≡ keeps_all (whole_quote_rows T.width T.form.keeps) (values (whole_quote_rows T.width T.form.keeps) bytes.now) }
 {
     let size = T::size();
-    keep_head(bytes) & (keep_price::<T>(bytes, 16 + size) & keep_price::<T>(bytes, 16 + 6 * size))
+    keep_head(bytes) & (T::price_keeps(bytes, 16 + size) & T::price_keeps(bytes, 16 + 6 * size))
 }
 
 fn keep_side<T: Width>(bytes: &[u8]) -> bool
     requires { 16 + 5 * T.width ≤ length bytes.now }
     ensures { result ≡ keeps_all (one_side_rows T.width T.form.keeps) (values (one_side_rows T.width T.form.keeps) bytes.now) }
 {
-    keep_head(bytes) & keep_price::<T>(bytes, 16 + T::size())
+    keep_head(bytes) & T::price_keeps(bytes, 16 + T::size())
 }
 
 fn quote<T: Width>(bytes: &[u8]) -> Reading

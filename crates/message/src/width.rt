@@ -1,5 +1,6 @@
 // The two widths of a quote's numbers, and what differs between them: two bytes with prices in pennies, and four with prices in ten-thousandths of a dollar.
-ghost use Rattle.std.specs.Prelude.{◌≡◌, ◌≤◌, true, refl};
+ghost use Rattle.std.specs.Prelude.{◌≡◌, ◌+◌, ◌≤◌, true, refl, length};
+ghost use Rattle.field.specs.Bytes.{part, be};
 ghost use Rattle.message.specs.Letters.{Form, short_form, long_form, map_quote, map_side};
 
 use crate::{Message, OneSide, Quote, Side};
@@ -25,6 +26,11 @@ pub trait Width: Number {
     // Does a price of this number keep its rule, if it is above zero?
     fn keeps(self) -> bool
         ensures { result ≡ form.keeps (Self.number self) };
+
+    // Does the price that stands at `at` keep that rule? It is tested where it lies.
+    fn price_keeps(bytes: &[u8], at: usize) -> bool
+        requires { at + Self.width ≤ length bytes.now }
+        ensures { result ≡ form.keeps (be (part bytes.now at Self.width)) };
 
     // The letter of a quote of both sides.
     fn quote_code() -> u8
@@ -63,8 +69,12 @@ impl Width for u16 {
         self as u32
     }
 
-    // Every number of two bytes is in range.
+    // Every number of two bytes is in range, here and where it lies.
     fn keeps(self) -> bool {
+        true
+    }
+
+    fn price_keeps(_bytes: &[u8], _at: usize) -> bool {
         true
     }
 
@@ -111,6 +121,10 @@ impl Width for u32 {
 
     fn keeps(self) -> bool {
         limits::price_in_range(self)
+    }
+
+    fn price_keeps(bytes: &[u8], at: usize) -> bool {
+        limits::price_keeps(bytes, at)
     }
 
     fn quote_code() -> u8 {

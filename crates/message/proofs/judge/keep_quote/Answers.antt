@@ -20,4 +20,4 @@ returns g c =
     let bid : 16 + k ≡ 16 + w = omega arith in
     let ask : 16 + 6 * k ≡ 16 + 5 * w + w = omega arith in
     quote-kept (be (part bs 3 8)) (be (part bs 15 1)) c.keep_head.ensures _ (keeps (be (part bs (16 + w) w))) (keeps (be (part bs (16 + 5 * w + w) w))) (read-as-numbers (whole_quote_rows w keeps) bs)
-    (both-are (c.keep_price.ensures ∙ ap (λ (j : ℕ). keeps (be (part bs j w))) bid) (c.keep_price-2.ensures ∙ ap (λ (j : ℕ). keeps (be (part bs j w))) ask))
+    (both-are (c.price_keeps.ensures ∙ ap (λ (j : ℕ). keeps (be (part bs j w))) bid) (c.price_keeps-2.ensures ∙ ap (λ (j : ℕ). keeps (be (part bs j w))) ask))

@@ -15,4 +15,4 @@ returns g c =
     let w = g.T.Number.width in
     let keeps = g.T.Width.form.keeps in
     side-kept (be (part bs 3 8)) (be (part bs 15 1)) c.keep_head.ensures _ (keeps (be (part bs (16 + w) w))) (read-as-numbers (one_side_rows w keeps) bs)
-    (c.keep_price.ensures ∙ ap (λ (k : ℕ). keeps (be (part bs (16 + k) w))) c.size.ensures.0)
+    (c.price_keeps.ensures ∙ ap (λ (k : ℕ). keeps (be (part bs (16 + k) w))) c.size.ensures.0)
