@@ -4,7 +4,7 @@ use mathlib.Core.Path.{◌≡◌, refl, sym, ap, ◌∙◌}
 use mathlib.Core.Bool.{Bool, true, false, not}
 use mathlib.Core.Logic.{◌⊎◌, inl, inr}
 use mathlib.Core.List.{List, [], ◌∷◌}
-use Prim.Native.Nat.{ℕ, ◌+◌, ◌*◌, ◌<◌}
+use Prim.Native.Nat.{ℕ, ◌+◌, ◌*◌, ◌≤◌, ◌<◌}
 use native.Mathlib.Decide.{ℕ_discrete}
 use native.Mathlib.Omega.{arith}
 use lib.ListN.{length, get_or}
@@ -112,6 +112,16 @@ module _ (bs : List ℕ) {v : Result (Unit {0}) Refusal} (e : v ≡ checked (rea
 
   tested-refused : {x : Refusal} → v ≡ Err x → messages.refusal_number x ≡ tested (read_of bs)
   tested-refused f = sym (ap tests.number_in f) ∙ tested-number
+
+-- no test has a higher number
+pub tested_low : (bs : List ℕ) {n : ℕ} → n ≡ tested (read_of bs) → n ≤ 12
+tested_low bs e = rw e (by (read_of bs).answer)
+  where
+    by : (a : Result Message Refusal) → tested_as a ≤ 12
+    by (Ok m) = omega arith
+    by (Err message_refusals.UnknownLetter) = omega arith
+    by (Err message_refusals.WrongLength) = omega arith
+    by (Err message_refusals.BadField) = omega arith
 
 -- ---- what a message does, by its reading
 

@@ -62,11 +62,11 @@ module _ (r : Reader) where
   unfolding holds_unfinished unfinished
   held-short h e f = rw (le-leb r.used held_size h, short-there (held_of r) e f)
 
-  held-bad : {w : Framing} → r.used ≤ held_size → w ≡ front_of (frame (held_of r)) → w ≡ BadLength → false ≡ holds_unfinished r
+  pub held-bad : {w : Framing} → r.used ≤ held_size → w ≡ front_of (frame (held_of r)) → w ≡ BadLength → false ≡ holds_unfinished r
   unfolding holds_unfinished unfinished
   held-bad h e f = rw (le-leb r.used held_size h, (bad-there (held_of r) e f).is)
 
-  held_whole : {w : Framing} {n : ℕ} → r.used ≤ held_size → w ≡ front_of (frame (held_of r)) → w ≡ Whole n → false ≡ holds_unfinished r
+  pub held_whole : {w : Framing} {n : ℕ} → r.used ≤ held_size → w ≡ front_of (frame (held_of r)) → w ≡ Whole n → false ≡ holds_unfinished r
   unfolding holds_unfinished unfinished
   held_whole h e f = rw (le-leb r.used held_size h, (whole-there (held_of r) e f).is)
 

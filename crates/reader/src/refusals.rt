@@ -8,7 +8,7 @@ ghost use Rattle.reader.specs.Refusals.{refusal_number, standing, named};
 use crate::Refusal;
 use packet::Fault;
 
-// Numbers and names by a match, here and below: each refusal has its own.
+// Numbers and names by a match, here and below: each refusal has its own, and those of the table the one that it gives them.
 impl From<Refusal> for u8 {
     ghost from_gives = { λ r n. n ≡ refusal_number r };
 
@@ -24,10 +24,10 @@ impl From<Refusal> for u8 {
             Refusal::UnknownMessage => 10,
             Refusal::WrongLength => 11,
             Refusal::BadField => 12,
-            Refusal::NoRow => 13,
-            Refusal::NoQuotes => 14,
-            Refusal::FixedField => 15,
-            Refusal::TableFull => 16,
+            Refusal::NoRow => u8::from(table::Refusal::NoRow),
+            Refusal::NoQuotes => u8::from(table::Refusal::NoQuotes),
+            Refusal::FixedField => u8::from(table::Refusal::FixedField),
+            Refusal::TableFull => u8::from(table::Refusal::TableFull),
             Refusal::HighCeiling => 27,
         }
     }
