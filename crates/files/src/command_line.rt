@@ -4,12 +4,15 @@ ghost use Rattle.std.specs.Prelude.{◌≤◌, length};
 use std::env::FillError;
 use std::rt::Env;
 
-// The argument at that place, which is put to the front of `space`; nothing where there is none or where it has no room.
-pub fn argument<'a>(rt: &HostRuntime, place: usize, space: &'a mut [u8]) -> &'a [u8]
-    ensures { length result.now ≤ length space.old }
+// The argument at that place, to the front of `space`; answers its length, 0 where there is none or where it has no room. A length and no slice:
+// the contract of a slice that is handed on can't name the memory that it lies in.
+pub fn argument(rt: &HostRuntime, place: usize, space: &mut [u8]) -> usize
+    ensures { result ≤ length space.new }
 {
-    let n = rt.arg(place, space).unwrap_or(0);
-    &space[..n]
+    match rt.arg(place, space) {
+        Ok(n) => n,
+        Err(_) => 0,
+    }
 }
 
 fn has(rt: &HostRuntime, place: usize) -> bool {

@@ -126,7 +126,8 @@ fn save(rt: &HostRuntime, file: Option<usize>, reader: Reader, table: &[u8]) -> 
         return Ok(());
     };
     let mut space = [0u8; MOST_PATH];
-    let path = command_line::argument(rt, place, &mut space);
+    let n = command_line::argument(rt, place, &mut space);
+    let path = &space[..n];
     save_to(rt, path, reader, table)
 }
 
@@ -138,7 +139,8 @@ fn resume(
     index: &mut [u8],
 ) -> Result<Reader, Fault> {
     let mut space = [0u8; MOST_PATH];
-    let path = command_line::argument(rt, place, &mut space);
+    let n = command_line::argument(rt, place, &mut space);
+    let path = &space[..n];
     let mut saved = [0u8; LONGER_IMAGE];
     let size = files::load(rt, &PROGRAM, path, &mut saved).ok_or(Fault::Failed)?;
     let back = Reader::restore(&saved[..size], table, index);
@@ -171,7 +173,8 @@ fn open_session(rt: &HostRuntime, session: Option<usize>) -> Option<Input> {
         return Some(Input::Standard(rt.stdin()));
     };
     let mut space = [0u8; MOST_PATH];
-    let path = command_line::argument(rt, place, &mut space);
+    let n = command_line::argument(rt, place, &mut space);
+    let path = &space[..n];
     files::open(rt, &PROGRAM, path)
 }
 
@@ -182,7 +185,8 @@ fn complain(rt: &HostRuntime, session: Option<usize>, error: io::Error) {
         return;
     };
     let mut space = [0u8; MOST_PATH];
-    let path = command_line::argument(rt, place, &mut space);
+    let n = command_line::argument(rt, place, &mut space);
+    let path = &space[..n];
     complaints::input(rt, &PROGRAM, path, error);
 }
 

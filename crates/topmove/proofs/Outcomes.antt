@@ -10,7 +10,7 @@ use Rattle.field.proofs.Parts.{overlay-length, part-overlay}
 use Rattle.block.specs.Block.{block_size, head_at}
 use Rattle.block.specs.declared.Head.{Head}
 use Rattle.image.specs.Header.{header_of}
-use Rattle.image.specs.Save.{Saving, saving}
+use Rattle.image.specs.Save.{Saving, saving, refusal_number}
 use Rattle.image.specs.Restore.{version_of}
 use Rattle.image.specs.Moves.{wanted_by, moved_of, move_of, lost_of}
 use Rattle.image.specs.declared.Refusal.{Refusal}
@@ -74,18 +74,18 @@ module _ (way : Way) (image out : List ℕ) {r : Result ℕ Refusal} {z : List �
     pub front-block : block_size ≤ length (take n z)
     front-block = omega (arith, ap length front-is, size_is, image-kept.size.some, done.size)
 
-    pub said : {m : Moved} → m ≡ facts_of image (take n z) → ◌≡◌ {A = Result Moved Refusal} (Ok m) (outcome_of way image (move_of way image out).answer)
+    pub said : {m : Moved} → m ≡ facts_of image (take n z) → ◌≡◌ {A = Result Moved ℕ} (Ok m) (outcome_of way image (move_of way image out).answer)
     unfolding outcome_of
     said f =
         ap Ok (f ∙ ap (facts_of image) front-is ∙ facts-moved way image image-kept) ∙ ap (outcome_of way image) (sym w ∙ ap (λ (s : Saving). s.answer) e)
 
-  pub refused : (q : Refusal) → r ≡ Err q → ◌≡◌ {A = Result Moved Refusal} (Err q) (outcome_of way image (move_of way image out).answer)
+  pub refused : (q : Refusal) {number : ℕ} → r ≡ Err q → number ≡ refusal_number q → ◌≡◌ {A = Result Moved ℕ} (Err number) (outcome_of way image (move_of way image out).answer)
   unfolding outcome_of
-  refused q w = ap (outcome_of way image) (sym w ∙ ap (λ (s : Saving). s.answer) e)
+  refused q w f = ap Err f ∙ ap (outcome_of way image) (sym w ∙ ap (λ (s : Saving). s.answer) e)
 
 -- ---- the bytes of which it is said
 
-module _ (way : Way) (image out : List ℕ) {o : Result Moved Refusal} {z : List ℕ} (m : Moved) (p : o ≡ Ok m) (e : o ≡ outcome_of way image (move_of way image out).answer)
+module _ (way : Way) (image out : List ℕ) {o : Result Moved ℕ} {z : List ℕ} (m : Moved) (p : o ≡ Ok m) (e : o ≡ outcome_of way image (move_of way image out).answer)
     (f : z ≡ (move_of way image out).out) where
   pub moved_inside : m.size ≤ length z
   unfolding outcome_of moved_from

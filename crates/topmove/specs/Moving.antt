@@ -2,6 +2,7 @@
 -- Assumes nothing.
 use Rattle.std.specs.Prelude.{ℕ, List, length, Result, Ok, Err}
 use Rattle.image.specs.Header.{header_of}
+use Rattle.image.specs.Save.{refusal_number}
 use Rattle.image.specs.Restore.{version_of}
 use Rattle.image.specs.Moves.{version_after, lost_of}
 use Rattle.image.specs.declared.Way.{Way}
@@ -23,7 +24,7 @@ moved_from way image =
       lost = lost_of image;
     }
 
--- and a refusal is handed on
-unfoldable pub outcome_of : Way → List ℕ → Result ℕ Refusal → Result Moved Refusal
+-- and of a refusal its number
+unfoldable pub outcome_of : Way → List ℕ → Result ℕ Refusal → Result Moved ℕ
 outcome_of way image (Ok n) = Ok (moved_from way image)
-outcome_of way image (Err r) = Err r
+outcome_of way image (Err r) = Err (refusal_number r)

@@ -30,7 +30,9 @@ pub struct Wanted {
 fn choice_at(rt: &HostRuntime, place: usize) -> Choice
     requires { place ≤ 2 }
 {
-    let way = match command_line::argument(rt, place, &mut [0u8; 8]) {
+    let mut text = [0u8; 8];
+    let n = command_line::argument(rt, place, &mut text);
+    let way = match &text[..n] {
         b"--help" => return Choice::Help,
         b"forward" => Way::Forward,
         b"back" => Way::Back,
@@ -47,7 +49,9 @@ fn choice_at(rt: &HostRuntime, place: usize) -> Choice
 }
 
 pub fn read(rt: &HostRuntime) -> Wanted {
-    let status = command_line::argument(rt, 1, &mut [0u8; 8]) == b"--status".as_slice();
+    let mut text = [0u8; 8];
+    let n = command_line::argument(rt, 1, &mut text);
+    let status = &text[..n] == b"--status".as_slice();
     Wanted {
         choice: choice_at(rt, if status { 2 } else { 1 }),
         status,

@@ -57,7 +57,8 @@ fn print_line(rt: &HostRuntime, way: Way, moved: Moved) -> Result<(), Fault> {
 // The bytes to the file that an argument names.
 fn store(rt: &HostRuntime, new: usize, bytes: &[u8]) -> Result<(), Fault> {
     let mut space = [0u8; MOST_PATH];
-    let path = command_line::argument(rt, new, &mut space);
+    let n = command_line::argument(rt, new, &mut space);
+    let path = &space[..n];
     if !files::store(rt, &PROGRAM, path, bytes) {
         return Err(Fault::Failed);
     }
@@ -74,8 +75,8 @@ impl Move {
                 store(rt, self.new, &out[..size])?;
                 print_line(rt, self.way, moved)
             }
-            Err(r) => {
-                complaints::refusal(rt, &PROGRAM, path, b": not moved: refused ", u8::from(r));
+            Err(number) => {
+                complaints::refusal(rt, &PROGRAM, path, b": not moved: refused ", number);
                 Err(Fault::Refused)
             }
         }
@@ -84,7 +85,8 @@ impl Move {
     // FILE to NEW.
     fn run(self, rt: &HostRuntime) -> Result<(), Fault> {
         let mut space = [0u8; MOST_PATH];
-        let path = command_line::argument(rt, self.file, &mut space);
+        let n = command_line::argument(rt, self.file, &mut space);
+        let path = &space[..n];
         let mut image = [0u8; LONGER_IMAGE];
         let size = files::load(rt, &PROGRAM, path, &mut image).ok_or(Fault::Failed)?;
         self.convert(rt, path, &image[..size])

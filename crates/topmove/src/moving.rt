@@ -45,11 +45,13 @@ fn facts(image: &[u8], moved: &[u8]) -> Moved
     }
 }
 
-// Moves an image to the front of `out`, and answers what is said of it; a refusal leaves `out`. The way is a value, as for `save`.
-pub fn move_image(way: Way, image: &[u8], out: &mut [u8]) -> Result<Moved, image::Refusal>
+// Moves an image to the front of `out`, and answers what is said of it, or the number of the refusal, which leaves `out`. The way is a value, as for `save`.
+pub fn move_image(way: Way, image: &[u8], out: &mut [u8]) -> Result<Moved, u8>
     ensures said { result ≡ outcome_of way image.now (move_of way image.now out.old).answer }
     ensures written { out.new ≡ (move_of way image.now out.old).out }
 {
-    let n = save(way, image, out)?;
-    Ok(facts(image, &out[..n]))
+    match save(way, image, out) {
+        Ok(n) => Ok(facts(image, &out[..n])),
+        Err(r) => Err(u8::from(r)),
+    }
 }
