@@ -22,8 +22,7 @@ use Rattle.message.specs.declared.Message.{Message}
 use Rattle.message.specs.declared.Refusal.{Refusal}
 use Rattle.message.specs.declared.Refusal.TheVariants.{UnknownLetter, WrongLength, BadField}
 use Rattle.std.specs.Prelude.{Result, Ok, Err, Option, Some, None}
-use Rattle.std.specs.Option.{is_some}
-use Rattle.message.proofs.Layouts.{never, read-as-numbers, rows_in, values-in-part}
+use Rattle.message.proofs.Layouts.{read-as-numbers, rows_in, values-in-part}
 use Rattle.message.proofs.Feeds.{found, unlisted_length, has-length, has-none}
 use Rattle.message.proofs.Table.{room}
 use Rattle.message.proofs.Ways.{entry-values}

@@ -7,6 +7,7 @@ use Prim.Native.Nat.{ℕ, ◌+◌, ◌*◌}
 use Rattle.field.specs.Bytes.{part, be}
 use Rattle.message.specs.Layout.{price_by, price_from, values}
 use Rattle.message.specs.Letters.{numbers_rows, numbers_of, map_numbers}
+use Rattle.message.specs.declared.SideNumbers.{SideNumbers}
 use Rattle.message.proofs.Amounts.{by-from}
 use Rattle.std.specs.Prelude.{Option, option_map}
 
@@ -25,3 +26,8 @@ module _ {T : Type 0} (f : T → ℕ) (w : ℕ) (keeps : ℕ → Bool) (bs : Lis
         customer = (d ∙ ap (λ (j : ℕ). be (part bs (at + 3 * j) w)) wide) i;
         professional = (e ∙ ap (λ (j : ℕ). be (part bs (at + 4 * j) w)) wide) i;
       }
+
+-- the numbers that stand at p, where the code's own reckoning of the place says q
+pub numbers-at : (w : ℕ) (keeps : ℕ → Bool) (bs : List ℕ) (q : ℕ) {p : ℕ} {n : SideNumbers ℕ} → n ≡ numbers_of (values (numbers_rows w keeps p) bs) → p ≡ q
+    → n ≡ numbers_of (values (numbers_rows w keeps q) bs)
+numbers-at w keeps bs q e is = e ∙ ap (λ (k : ℕ). numbers_of (values (numbers_rows w keeps k) bs)) is

@@ -154,7 +154,7 @@ fn verdict_number(verdict: Result<(), image::Refusal>) -> u32
     ensures { result ≡ restore_number verdict }
 {
     match verdict {
-        Ok(()) => 0,
+        Ok(_) => 0,
         Err(r) => u8::from(r) as u32,
     }
 }

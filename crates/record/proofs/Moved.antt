@@ -196,6 +196,14 @@ module _ (w : ℕ) (keeps : ℕ → Bool) (four : w ≡ 4) (bs xs : List ℕ) {z
   unfolding laid values
   long-back at to h e = rw (four, add-zero at) (e ∙ long-laid xs to (numbers_of (values (long_numbers_rows at) bs)) h)
 
+-- those of a side at places that are known to be the same by arithmetic alone
+pub moved-at : (w : ℕ) (keeps : ℕ → Bool) (bs xs : List ℕ) {zs : List ℕ} {low low' from from' : ℕ}
+    → zs ≡ laid (low_places w low) (values (numbers_rows w keeps from) bs) xs → low ≡ low' → from ≡ from'
+    → zs ≡ laid (low_places w low') (values (numbers_rows w keeps from') bs) xs
+moved-at w keeps bs xs {low' = low'} {from = from} h e f =
+    h ∙ ap (λ (k : ℕ). laid (low_places w k) (values (numbers_rows w keeps from) bs) xs) e
+    ∙ ap (λ (k : ℕ). laid (low_places w low') (values (numbers_rows w keeps k) bs) xs) f
+
 -- ---- a directory
 
 -- two bytes that are copied at once

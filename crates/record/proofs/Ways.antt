@@ -14,6 +14,7 @@ use Rattle.message.specs.Message.{read_of}
 use Rattle.std.specs.Prelude.{Option, option_map}
 use Rattle.message.proofs.Amounts.{by-from}
 use Rattle.message.specs.declared.Message.{Message}
+use Rattle.message.specs.declared.SideNumbers.{SideNumbers}
 use Rattle.message.specs.declared.Texts.{Texts}
 use Rattle.message.proofs.Feeds.{found}
 use Rattle.record.specs.Places.{record_size, low_places, record_letters}
@@ -36,6 +37,14 @@ pub numbers-said : {T : Type 0} (f : T → ℕ) (w low : ℕ) (bs : List ℕ) {m
 unfolding values
 numbers-said f w low bs {x = x} a b p c d e i =
     record { market = a i; price = (ap (option_map f) p ∙ by-from f x ∙ ap price_from b) i; size = c i; customer = d i; professional = e i }
+
+-- a number, and the numbers of a side, at a place that is known to be the same by arithmetic alone
+pub number-at : (w : ℕ) (bs : List ℕ) {n at at' : ℕ} → n ≡ be (part bs at w) → at ≡ at' → n ≡ be (part bs at' w)
+number-at w bs h e = h ∙ ap (λ (k : ℕ). be (part bs k w)) e
+
+pub side-at : (w : ℕ) (bs : List ℕ) {n : SideNumbers ℕ} {low low' : ℕ} → n ≡ numbers_of (values (low_places w low) bs) → low ≡ low'
+    → n ≡ numbers_of (values (low_places w low') bs)
+side-at w bs h e = h ∙ ap (λ (k : ℕ). numbers_of (values (low_places w k) bs)) e
 
 -- a message that has no texts, of a record that is read
 pub said-as : {A : Type 0} (says : A → Message) {x a : A} → x ≡ a → held (says x) no_texts ≡ held (says a) no_texts

@@ -1,7 +1,7 @@
 -- `field::read4_low_first` meets its contract.
 use mathlib.Core.Path.{ap, ◌∙◌}
 use borrow.Author.Rules.{rules}
-use Rattle.std.specs.Int.{w32, from_le_bytes}
+use native.Mathlib.Omega.{arith}
 use Rattle.field.specs.Bytes.{part, turned}
 use Rattle.field.proofs.Numbers.{lent-bytes, part_bytes, turned-low}
 use Rattle.field.proofs.Parts.{part_length}
@@ -11,5 +11,5 @@ pub returns : goal.returns
 returns c =
     let s = c.args.s.now in
     let at = c.args.at in
-    ap turned (c.from_le_bytes.ensures ∙ ap (from_le_bytes w32) c.bytes.ensures)
+    ap turned (grind arith)
     ∙ turned-low (part s at 4) (part_length s at 4 (search rules)) (part_bytes s at 4 (lent-bytes s (search rules)))

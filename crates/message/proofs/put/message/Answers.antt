@@ -44,11 +44,11 @@ returns-in-TradingAction c = search (put_as, rules)
 
 pub returns-in-ShortQuote : goal.returns-in-ShortQuote
 unfolding bytes_of
-returns-in-ShortQuote c = put_as (message.ShortQuote c.in-ShortQuote.m) c.args.texts c.args.out.now c.in-ShortQuote.is (rw (same-price c.in-ShortQuote.m.bid.price, same-price c.in-ShortQuote.m.ask.price) at c.quote.ensures)
+returns-in-ShortQuote c = put_as (message.ShortQuote c.in-ShortQuote.m) c.args.texts c.args.out.now c.in-ShortQuote.is (simp same-price at c.quote.ensures)
 
 pub returns-in-LongQuote : goal.returns-in-LongQuote
 unfolding bytes_of
-returns-in-LongQuote c = put_as (message.LongQuote c.in-LongQuote.m) c.args.texts c.args.out.now c.in-LongQuote.is (rw (same-price c.in-LongQuote.m.bid.price, same-price c.in-LongQuote.m.ask.price) at c.quote-in-LongQuote.ensures)
+returns-in-LongQuote c = put_as (message.LongQuote c.in-LongQuote.m) c.args.texts c.args.out.now c.in-LongQuote.is (simp same-price at c.quote-in-LongQuote.ensures)
 
 pub returns-in-ShortSide : goal.returns-in-ShortSide
 unfolding bytes_of

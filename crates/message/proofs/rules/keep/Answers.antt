@@ -20,11 +20,11 @@ returns-in-TradingAction c = search (kept, rules)
 
 pub returns-in-ShortQuote : goal.returns-in-ShortQuote
 unfolding keeps
-returns-in-ShortQuote c = kept (message.ShortQuote c.in-ShortQuote.m) c.args.texts c.in-ShortQuote.is (rw (same-price c.in-ShortQuote.m.bid.price, same-price c.in-ShortQuote.m.ask.price) at c.keep_quote.ensures)
+returns-in-ShortQuote c = kept (message.ShortQuote c.in-ShortQuote.m) c.args.texts c.in-ShortQuote.is (simp same-price at c.keep_quote.ensures)
 
 pub returns-in-LongQuote : goal.returns-in-LongQuote
 unfolding keeps
-returns-in-LongQuote c = kept (message.LongQuote c.in-LongQuote.m) c.args.texts c.in-LongQuote.is (rw (same-price c.in-LongQuote.m.bid.price, same-price c.in-LongQuote.m.ask.price) at c.keep_quote-in-LongQuote.ensures)
+returns-in-LongQuote c = kept (message.LongQuote c.in-LongQuote.m) c.args.texts c.in-LongQuote.is (simp same-price at c.keep_quote-in-LongQuote.ensures)
 
 pub returns-in-ShortSide : goal.returns-in-ShortSide
 unfolding keeps

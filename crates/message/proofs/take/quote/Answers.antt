@@ -1,8 +1,8 @@
 -- `message::take::quote` meets its contract.
-use mathlib.Core.Path.{ap, ◌∙◌}
-use Prim.Native.Nat.{ℕ, ◌+◌, ◌*◌}
+use native.Mathlib.Omega.{arith}
+use Prim.Native.Nat.{◌+◌, ◌*◌}
 use Rattle.message.specs.Layout.{values}
-use Rattle.message.specs.Letters.{numbers_rows, numbers_of}
+use Rattle.message.proofs.Widths.{numbers-at}
 use Rattle.message.proofs.take.quote.Goals as goal
 
 pub returns : goal.returns
@@ -13,5 +13,5 @@ returns g c i =
       id = c.read.ensures i;
       condition = c.condition.ensures i;
       bid = c.read-2.ensures i;
-      ask = (c.read-3.ensures ∙ ap (λ (k : ℕ). numbers_of (values (numbers_rows g.T.Number.width g.T.Width.form.keeps (16 + 5 * k)) c.args.bytes.now)) c.size.ensures.0) i;
+      ask = numbers-at g.T.Number.width g.T.Width.form.keeps c.args.bytes.now (16 + 5 * g.T.Number.width) c.read-3.ensures (omega arith) i;
     }

@@ -1,13 +1,12 @@
 -- `record::say::numbers` meets its contract.
-use mathlib.Core.Path.{ap, ◌∙◌}
-use Prim.Native.Nat.{ℕ, ◌+◌, ◌-◌}
-use Rattle.message.specs.Layout.{values}
-use Rattle.message.specs.Letters.{numbers_of}
-use Rattle.record.specs.Places.{low_places}
-use Rattle.record.proofs.Ways.{numbers-said}
+use Prim.Native.Nat.{◌+◌, ◌-◌}
+use native.Mathlib.Omega.{arith}
+use Rattle.record.proofs.Ways.{numbers-said, number-at}
 use Rattle.record.proofs.say.numbers.Goals as goal
 
 pub returns : goal.returns
 returns g c =
-    numbers-said g.T.Number.number g.T.Number.width _ c.args.bytes.now c.read.ensures c.read-2.ensures c.price.ensures c.read-3.ensures c.read-4.ensures c.read-5.ensures
-    ∙ ap (λ (k : ℕ). numbers_of (values (low_places g.T.Number.width (c.args.at + (4 - k))) c.args.bytes.now)) c.size.ensures.0
+    let w = g.T.Number.width in
+    let bs = c.args.bytes.now in
+    numbers-said g.T.Number.number w (c.args.at + (4 - w)) bs (number-at w bs c.read.ensures (omega arith)) (number-at w bs c.read-2.ensures (omega arith)) c.price.ensures
+    (number-at w bs c.read-3.ensures (omega arith)) (number-at w bs c.read-4.ensures (omega arith)) (number-at w bs c.read-5.ensures (omega arith))
